@@ -1,0 +1,6 @@
+pub mod Taking
+pub mod Digits
+pub mod Sequence
+pub mod Written
+pub mod Steady
+pub mod Row

@@ -1,0 +1,149 @@
+ghost use mathlib.Core.Path.{_≡_};
+ghost use lib.Dec.{eqb};
+ghost use lib.ListN.{length};
+ghost use Rattle.bytes.specs.Reading.{start, endOf, read, closed};
+ghost use Rattle.bytes.specs.Numbers.{number, ranged, kindByte};
+ghost use Rattle.bytes.specs.Answers.{cursor, taken, part, verdict};
+ghost use Rattle.std.specs.Options.{Cases as BySome};
+ghost use Rattle.std.specs.Results.{Cases as ByOk};
+use super::fault::Fault;
+use super::reader::Reader;
+
+impl<'a> Reader<'a> {
+    pub fn new(bytes: &'a [u8]) -> Self
+        ensures { λ r. ⌜ cursor r ≡ start (now (bytes .entry)) ⌝ }
+    {
+        Reader { rest: bytes, at: 0 }
+    }
+
+    // A byte; None, and nothing taken, where it is missing.
+    pub fn byte(&mut self) -> Option<u8>
+        ensures value { λ r. ⌜ taken r (cursor (now (self .exit))) ≡ number 1 (cursor (now (self .entry))) ⌝ }
+        ensures kept { λ r. ⌜ BySome r (cursor (now (self .exit)) ≡ cursor (now (self .entry))) (λ _. Unit {0}) ⌝ }
+    {
+        let rest = self.rest;
+        if rest.len() < 1 {
+            return None;
+        }
+        let value = rest[0];
+        self.rest = &rest[1..];
+        self.at += 1;
+        Some(value)
+    }
+
+    // A number of two bytes, high byte first; None, and nothing taken, where one is missing.
+    pub fn short(&mut self) -> Option<u16>
+        ensures value { λ r. ⌜ taken r (cursor (now (self .exit))) ≡ number 2 (cursor (now (self .entry))) ⌝ }
+        ensures kept { λ r. ⌜ BySome r (cursor (now (self .exit)) ≡ cursor (now (self .entry))) (λ _. Unit {0}) ⌝ }
+    {
+        let rest = self.rest;
+        if rest.len() < 2 {
+            return None;
+        }
+        let value = rest[0] as u16 * 0x100 + rest[1] as u16;
+        self.rest = &rest[2..];
+        self.at += 2;
+        Some(value)
+    }
+
+    // A number of four bytes, high byte first; None, and nothing taken, where one is missing.
+    pub fn word(&mut self) -> Option<u32>
+        ensures value { λ r. ⌜ taken r (cursor (now (self .exit))) ≡ number 4 (cursor (now (self .entry))) ⌝ }
+        ensures kept { λ r. ⌜ BySome r (cursor (now (self .exit)) ≡ cursor (now (self .entry))) (λ _. Unit {0}) ⌝ }
+    {
+        let rest = self.rest;
+        if rest.len() < 4 {
+            return None;
+        }
+        let high = rest[0] as u32 * 0x100_0000 + rest[1] as u32 * 0x1_0000;
+        let value = high + rest[2] as u32 * 0x100 + rest[3] as u32;
+        self.rest = &rest[4..];
+        self.at += 4;
+        Some(value)
+    }
+
+    // The fault of a byte that is missing.
+    pub fn missing(&self) -> Fault
+        ensures { λ r. ⌜ r ≡ Fault.Length (endOf (cursor (now (self .entry)))) ⌝ }
+    {
+        Fault::Length {
+            at: self.at + self.rest.len(),
+        }
+    }
+
+    // A byte from low to high; nothing is taken where it is refused.
+    pub fn byte_in(&mut self, low: u8, high: u8) -> Result<u8, Fault>
+        ensures value { λ r. ⌜ part r (cursor (now (self .exit))) ≡ ranged 1 low high (cursor (now (self .entry))) ⌝ }
+        ensures kept { λ r. ⌜ ByOk r (λ _. Unit {0}) (λ _. cursor (now (self .exit)) ≡ cursor (now (self .entry))) ⌝ }
+    {
+        let mut ahead = *self;
+        let Some(value) = ahead.byte() else {
+            return Err(ahead.missing());
+        };
+        if value < low || value > high {
+            return Err(Fault::Range { at: self.at });
+        }
+        *self = ahead;
+        Ok(value)
+    }
+
+    // A number of two bytes from low to high; nothing is taken where it is refused.
+    pub fn short_in(&mut self, low: u16, high: u16) -> Result<u16, Fault>
+        ensures value { λ r. ⌜ part r (cursor (now (self .exit))) ≡ ranged 2 low high (cursor (now (self .entry))) ⌝ }
+        ensures kept { λ r. ⌜ ByOk r (λ _. Unit {0}) (λ _. cursor (now (self .exit)) ≡ cursor (now (self .entry))) ⌝ }
+    {
+        let mut ahead = *self;
+        let Some(value) = ahead.short() else {
+            return Err(ahead.missing());
+        };
+        if value < low || value > high {
+            return Err(Fault::Range { at: self.at });
+        }
+        *self = ahead;
+        Ok(value)
+    }
+
+    // A number of four bytes from low to high; nothing is taken where it is refused.
+    pub fn word_in(&mut self, low: u32, high: u32) -> Result<u32, Fault>
+        ensures value { λ r. ⌜ part r (cursor (now (self .exit))) ≡ ranged 4 low high (cursor (now (self .entry))) ⌝ }
+        ensures kept { λ r. ⌜ ByOk r (λ _. Unit {0}) (λ _. cursor (now (self .exit)) ≡ cursor (now (self .entry))) ⌝ }
+    {
+        let mut ahead = *self;
+        let Some(value) = ahead.word() else {
+            return Err(ahead.missing());
+        };
+        if value < low || value > high {
+            return Err(Fault::Range { at: self.at });
+        }
+        *self = ahead;
+        Ok(value)
+    }
+
+    // The kind of the record.
+    pub fn kind(&mut self, kind: u8) -> Result<u8, Fault>
+        ensures value { λ r. ⌜ part r (cursor (now (self .exit))) ≡ kindByte kind (cursor (now (self .entry))) ⌝ }
+        ensures kept { λ r. ⌜ ByOk r (λ _. Unit {0}) (λ _. cursor (now (self .exit)) ≡ cursor (now (self .entry))) ⌝ }
+    {
+        let mut ahead = *self;
+        let Some(value) = ahead.byte() else {
+            return Err(ahead.missing());
+        };
+        if value != kind {
+            return Err(Fault::Length { at: self.at });
+        }
+        *self = ahead;
+        Ok(value)
+    }
+
+    // The value of a record that ends here; a fault where bytes are left over, or where the record was cut.
+    pub fn close<T>(self, whole: bool, value: T) -> Result<T, Fault>
+    where
+        T: Drop,
+        ensures { λ r. ⌜ verdict (λ v. v) r ≡ closed whole (read value (cursor (self .entry))) ⌝ }
+    {
+        if !whole || self.rest.len() != 0 {
+            return Err(Fault::Length { at: self.at });
+        }
+        Ok(value)
+    }
+}
