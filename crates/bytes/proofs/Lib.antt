@@ -4,3 +4,5 @@ pub mod Sequence
 pub mod Written
 pub mod Steady
 pub mod Row
+pub mod Several
+pub mod Formats

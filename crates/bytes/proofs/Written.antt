@@ -1,7 +1,8 @@
 -- Reading what was written gives the number, and a number that is read was written so. Assumes nothing.
 use mathlib.Core.Path.{_≡_, refl, sym, ap, _∙_}
 use mathlib.Core.Bool.{Bool, true, false, cond, _&&_}
-use mathlib.Core.List.{List, [], _∷_, _++_}
+use mathlib.Core.List.{List, [], _∷_, _++_, append-assoc}
+use native.Mathlib.Nat.{add-zero}
 use Prim.Native.Nat.{ℕ, _+_, _^_, _<_, _≤_}
 use native.Mathlib.Omega.{arith}
 use lib.Dec.{leb, eqb}
@@ -29,6 +30,18 @@ pub record Told (c after : Cursor) (bytes : List ℕ) : Type 0 where
   pub bytesAre : c .rest ≡ bytes ++ after .rest
   pub onward : after .at ≡ c .at + length bytes
   pub left : All IsByte (after .rest)
+
+-- one part behind another
+pub told-then : (c mid after : Cursor) (a b : List ℕ) → Told c mid a → Told mid after b → Told c after (a ++ b)
+told-then c mid after a b first second =
+    record {
+      bytesAre = first .bytesAre ∙ ap (λ xs. a ++ xs) (second .bytesAre) ∙ sym (append-assoc a b (after .rest));
+      onward = rw (length-append a b) (omega (arith, first .onward, second .onward));
+      left = second .left }
+
+-- no bytes at all
+pub told-none : (c : Cursor) → All IsByte (c .rest) → Told c c []
+told-none c bytes = record { bytesAre = refl; onward = sym (add-zero (c .at)); left = bytes }
 
 pub number-told : (k n : ℕ) (c after : Cursor) → number k c ≡ read n after → All IsByte (c .rest) →
     (n < 256 ^ k) × Told c after (bytesOf k n)

@@ -24,6 +24,7 @@ faultPlace (Length at) = at
 faultPlace (Range at) = at
 faultPlace (Road at) = at
 
+-- where a reader stands
 abbrev pub cursor : Reader → Cursor
 cursor r = record { at = r .at; rest = r .rest .now }
 
@@ -32,10 +33,12 @@ abbrev pub taken : Option ℕ → Cursor → Outcome ℕ
 taken (Some n) c = read n c
 taken None c = fault 1 (endOf c)
 
-abbrev pub part : {A : Type 0} → Result A Fault → Cursor → Outcome A
-part (Ok v) c = read v c
-part (Err e) c = fault (faultNumber e) (faultPlace e)
+-- a part that was read by a reader, which then stands at c; model says what the value means
+abbrev pub part : {A B : Type 0} → (A → B) → Result A Fault → Cursor → Outcome B
+part model (Ok v) c = read (model v) c
+part model (Err e) c = fault (faultNumber e) (faultPlace e)
 
+-- a whole record, likewise
 abbrev pub verdict : {A B : Type 0} → (A → B) → Result A Fault → Verdict B
 verdict model (Ok v) = accepted (model v)
 verdict model (Err e) = refused (faultNumber e) (faultPlace e)

@@ -2,3 +2,4 @@ pub mod Reading
 pub mod Numbers
 pub mod Row
 pub mod Answers
+pub mod Format

@@ -1,7 +1,7 @@
 -- How a record is read: byte by byte, to its end or its first fault. Assumes nothing.
 use mathlib.Core.Bool.{Bool, cond, _&&_}
 use mathlib.Core.List.{List, [], _∷_}
-use Prim.Native.Nat.{ℕ, _+_}
+use Prim.Native.Nat.{ℕ, zero, suc, _+_}
 use lib.Dec.{eqb}
 use lib.ListN.{length, drop}
 
@@ -32,6 +32,24 @@ ahead k c = record { at = c .at + k; rest = drop k (c .rest) }
 abbrev pub andThen : {A B : Type 0} → Outcome A → (A → Cursor → Outcome B) → Outcome B
 andThen (read v c) next = next v c
 andThen (fault number place) next = fault number place
+
+-- The same for ways to read, so that the parts of a record can be listed in their order.
+infixl 10 _>>=_
+abbrev pub _>>=_ : {A B : Type 0} → (Cursor → Outcome A) → (A → Cursor → Outcome B) → Cursor → Outcome B
+_>>=_ first next c = andThen (first c) next
+
+infixl 10 _>>_
+abbrev pub _>>_ : {A B : Type 0} → (Cursor → Outcome A) → (Cursor → Outcome B) → Cursor → Outcome B
+_>>_ first next c = andThen (first c) (λ _. next)
+
+-- a value that is made of parts that were read
+abbrev pub pure : {A : Type 0} → A → Cursor → Outcome A
+pure v c = read v c
+
+-- n parts of one kind, one after the other
+unfoldable pub several : {A : Type 0} → ℕ → (Cursor → Outcome A) → Cursor → Outcome (List A)
+several zero one = pure []
+several (suc n) one = one >>= λ v. several n one >>= λ vs. pure (v ∷ vs)
 
 -- where the first missing byte would stand
 abbrev pub endOf : Cursor → ℕ

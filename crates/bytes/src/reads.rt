@@ -1,11 +1,11 @@
 ghost use mathlib.Core.Path.{_≡_};
-ghost use lib.Dec.{eqb};
-ghost use lib.ListN.{length};
+ghost use Prim.Native.Nat.{_≤_};
 ghost use Rattle.bytes.specs.Reading.{start, endOf, read, closed};
 ghost use Rattle.bytes.specs.Numbers.{number, ranged, kindByte};
 ghost use Rattle.bytes.specs.Answers.{cursor, taken, part, verdict};
 ghost use Rattle.std.specs.Options.{Cases as BySome};
 ghost use Rattle.std.specs.Results.{Cases as ByOk};
+ghost use Rattle.std.specs.Vec.{made};
 use super::fault::Fault;
 use super::reader::Reader;
 
@@ -72,15 +72,17 @@ impl<'a> Reader<'a> {
     }
 
     // A byte from low to high; nothing is taken where it is refused.
-    pub fn byte_in(&mut self, low: u8, high: u8) -> Result<u8, Fault>
-        ensures value { λ r. ⌜ part r (cursor (now (self .exit))) ≡ ranged 1 low high (cursor (now (self .entry))) ⌝ }
+    pub fn byte_in(&mut self, low: u16, high: u16) -> Result<u8, Fault>
+        ensures value { λ r. ⌜ part (λ n. n) r (cursor (now (self .exit))) ≡ ranged 1 low high (cursor (now (self .entry))) ⌝ }
+        ensures inside { λ r. ⌜ made r (λ n. (low ≤ n) × (n ≤ high)) ⌝ }
         ensures kept { λ r. ⌜ ByOk r (λ _. Unit {0}) (λ _. cursor (now (self .exit)) ≡ cursor (now (self .entry))) ⌝ }
     {
         let mut ahead = *self;
         let Some(value) = ahead.byte() else {
             return Err(ahead.missing());
         };
-        if value < low || value > high {
+        let number = value as u16;
+        if number < low || number > high {
             return Err(Fault::Range { at: self.at });
         }
         *self = ahead;
@@ -89,7 +91,8 @@ impl<'a> Reader<'a> {
 
     // A number of two bytes from low to high; nothing is taken where it is refused.
     pub fn short_in(&mut self, low: u16, high: u16) -> Result<u16, Fault>
-        ensures value { λ r. ⌜ part r (cursor (now (self .exit))) ≡ ranged 2 low high (cursor (now (self .entry))) ⌝ }
+        ensures value { λ r. ⌜ part (λ n. n) r (cursor (now (self .exit))) ≡ ranged 2 low high (cursor (now (self .entry))) ⌝ }
+        ensures inside { λ r. ⌜ made r (λ n. (low ≤ n) × (n ≤ high)) ⌝ }
         ensures kept { λ r. ⌜ ByOk r (λ _. Unit {0}) (λ _. cursor (now (self .exit)) ≡ cursor (now (self .entry))) ⌝ }
     {
         let mut ahead = *self;
@@ -105,7 +108,8 @@ impl<'a> Reader<'a> {
 
     // A number of four bytes from low to high; nothing is taken where it is refused.
     pub fn word_in(&mut self, low: u32, high: u32) -> Result<u32, Fault>
-        ensures value { λ r. ⌜ part r (cursor (now (self .exit))) ≡ ranged 4 low high (cursor (now (self .entry))) ⌝ }
+        ensures value { λ r. ⌜ part (λ n. n) r (cursor (now (self .exit))) ≡ ranged 4 low high (cursor (now (self .entry))) ⌝ }
+        ensures inside { λ r. ⌜ made r (λ n. (low ≤ n) × (n ≤ high)) ⌝ }
         ensures kept { λ r. ⌜ ByOk r (λ _. Unit {0}) (λ _. cursor (now (self .exit)) ≡ cursor (now (self .entry))) ⌝ }
     {
         let mut ahead = *self;
@@ -121,7 +125,7 @@ impl<'a> Reader<'a> {
 
     // The kind of the record.
     pub fn kind(&mut self, kind: u8) -> Result<u8, Fault>
-        ensures value { λ r. ⌜ part r (cursor (now (self .exit))) ≡ kindByte kind (cursor (now (self .entry))) ⌝ }
+        ensures value { λ r. ⌜ part (λ n. n) r (cursor (now (self .exit))) ≡ kindByte kind (cursor (now (self .entry))) ⌝ }
         ensures kept { λ r. ⌜ ByOk r (λ _. Unit {0}) (λ _. cursor (now (self .exit)) ≡ cursor (now (self .entry))) ⌝ }
     {
         let mut ahead = *self;
@@ -136,9 +140,7 @@ impl<'a> Reader<'a> {
     }
 
     // The value of a record that ends here; a fault where bytes are left over, or where the record was cut.
-    pub fn close<T>(self, whole: bool, value: T) -> Result<T, Fault>
-    where
-        T: Drop,
+    pub fn close<T: Drop>(self, whole: bool, value: T) -> Result<T, Fault>
         ensures { λ r. ⌜ verdict (λ v. v) r ≡ closed whole (read value (cursor (self .entry))) ⌝ }
     {
         if !whole || self.rest.len() != 0 {

@@ -6,16 +6,18 @@ pub returns-in-rest : need.returns-in-rest
 returns-in-rest c =
     record {
       value = rw (c .missing .ensures) (ranged-missing 1 _ _ _ _ (c .in-rest .ensures tt .value));
+      inside = tt;
       kept = refl;
     }
 
-pub returns-then-value-low : need.returns-then-value-low
-returns-then-value-low c =
-    record { value = ranged-outside 1 _ _ _ _ _ (c .in-Some .ensures tt .value) (c .then-value-low .either); kept = refl }
+pub returns-then-number-low : need.returns-then-number-low
+returns-then-number-low c =
+    record { value = ranged-outside 1 _ _ _ _ _ (c .in-Some .ensures tt .value) (c .then-number-low .either); inside = tt; kept = refl }
 
 pub returns : need.returns
 returns c =
     record {
-      value = ranged-inside 1 _ _ _ _ _ (c .in-Some .ensures tt .value) (c .if-value-low .left) (c .if-value-high .left);
+      value = ranged-inside 1 _ _ _ _ _ (c .in-Some .ensures tt .value) (c .if-number-low .left) (c .if-number-high .left);
+      inside = (c .if-number-low .left, c .if-number-high .left);
       kept = tt;
     }

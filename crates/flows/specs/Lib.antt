@@ -1,0 +1,5 @@
+pub mod Net
+pub mod Flow
+pub mod Models
+pub mod NetFormat
+pub mod FlowFormat
