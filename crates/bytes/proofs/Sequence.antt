@@ -11,6 +11,12 @@ use Rattle.bytes.specs.Reading.{Cursor, Outcome, read, fault, Verdict, accepte
 use Rattle.bytes.specs.Numbers.{number, ranged}
 use Rattle.std.specs.shelf.Lists.{All}
 
+pub same-value : {A : Type 0} {v w : A} {c d : Cursor} → read v c ≡ read w d → v ≡ w
+same-value e = cc
+
+pub same-place : {A : Type 0} {v w : A} {c d : Cursor} → read v c ≡ read w d → c ≡ d
+same-place e = cc
+
 -- where two parts were read, each was, the second where the first ends
 pub both-read : {A B : Type 0} (o : Outcome A) (next : A → Cursor → Outcome B) (w : B) (after : Cursor) →
     andThen o next ≡ read w after → (v : A) × (c : Cursor) × (o ≡ read v c) × (next v c ≡ read w after)

@@ -1,1 +1,3 @@
 pub mod NetLaws
+pub mod RoadLaws
+pub mod FlowLaws

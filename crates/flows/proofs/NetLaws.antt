@@ -5,11 +5,11 @@ use Prim.Native.Nat.{ℕ, suc, _+_, _≤_, _<_, max}
 use native.Mathlib.Omega.{arith}
 use lib.ListN.{length, getD, take}
 use Rattle.std.specs.shelf.Lists.{All, joined}
-use Rattle.std.proofs.shelf.Lists.{getD-take}
+use Rattle.std.proofs.shelf.Lists.{getD-take, length-take}
 use Rattle.std.proofs.shelf.Elements.{all-getD, all-weaker}
 use Rattle.bytes.specs.Reading.{Cursor, Outcome, read, fault, andThen, several}
 use Rattle.bytes.specs.Numbers.{number, ranged, kindByte}
-use Rattle.bytes.proofs.Sequence.{both-read, ranged-bounds, several-all}
+use Rattle.bytes.proofs.Sequence.{both-read, same-value, ranged-bounds, several-all}
 use Rattle.flows.specs.declared.port.Port.{Port}
 use Rattle.flows.specs.Net.{NetModel, netModel, noPort, SoundPort, SoundNet}
 use Rattle.flows.specs.NetFormat.{portFrom, needed, netFrom}
@@ -52,7 +52,8 @@ net-sound least net c after e =
     let ports = both-read (several (count .0) portFrom (count .1)) _ net after (count .3) in
     let switches = both-read (ranged 1 (needed least (ports .0)) 255 (ports .1)) _ net after (ports .3) in
     let memories = both-read (several (switches .0) (ranged 4 0 1048576) (switches .1)) _ net after (switches .3) in
-    let is : record { ports = ports .0; memories = memories .0 } ≡ net = cc (memories .3) in
+    let value : NetModel = record { ports = ports .0; memories = memories .0 } in
+    let is : value ≡ net = same-value (memories .3) in
     let few = ranged-bounds 1 0 64 (count .0) (kind .1) (count .1) (count .2) in
     let enough = ranged-bounds 1 (needed least (ports .0)) 255 (switches .0) (ports .1) (switches .1) (switches .2) in
     let wires = several-all (λ (p : Port). p .wire ≤ 1023) portFrom port-wire (count .0) (ports .0) (count .1) (ports .1) (ports .2) in
@@ -69,12 +70,16 @@ net-sound least net c after e =
          eachMemory = sizes .1 },
        names .0)
 
+pub in-table : {A : Type 0} (n : ℕ) (xs : List A) → length (take n xs) ≡ n → n ≤ length xs
+in-table n xs size = omega (arith, length-take n xs)
+
 -- what holds of the ports and memories that are in use, place by place
 pub places-sound : (ports : List Port) (count : ℕ) (memory : List ℕ) (switches : ℕ) →
   length (take count ports) ≡ count → length (take switches memory) ≡ switches → SoundNet (netModel ports count memory switches) →
-  (count ≤ 64) × (((k : ℕ) → k < count → SoundPort switches (getD ports k noPort)) × (((k : ℕ) → k < switches → getD memory k 0 ≤ 1048576) × Unit {0}))
+  (count ≤ 64) × ((count ≤ length ports) × ((switches ≤ length memory) × (((k : ℕ) → k < count → SoundPort switches (getD ports k noPort)) × (((k : ℕ) → k < switches → getD memory k 0 ≤ 1048576) × Unit {0}))))
 places-sound ports count memory switches ports-size memory-size sound =
     (rw ports-size at (sound .portsFew),
+     (in-table count ports ports-size, (in-table switches memory memory-size,
      ((λ k h.
          let all : All (SoundPort switches) (take count ports) = rw memory-size at (sound .eachPort) in
          let there : k < length (take count ports) = omega arith in
@@ -82,4 +87,4 @@ places-sound ports count memory switches ports-size memory-size sound =
       ((λ k h.
           let there : k < length (take switches memory) = omega arith in
           rw (getD-take switches memory k 0 h) at (all-getD (λ m. m ≤ 1048576) (take switches memory) k 0 there (sound .eachMemory))),
-       tt)))
+       tt)))))

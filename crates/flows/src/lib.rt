@@ -4,3 +4,4 @@ pub mod net;
 pub mod port;
 pub mod read_flow;
 pub mod read_net;
+pub mod road;

@@ -1,5 +1,5 @@
 ghost use Prim.Native.Nat.{ℕ, _≤_, _<_};
-ghost use lib.ListN.{getD};
+ghost use lib.ListN.{getD, length};
 ghost use Rattle.flows.specs.Net.{SoundPort, noPort};
 use super::port::Port;
 
@@ -11,6 +11,8 @@ pub struct Net {
     pub memory: [u32; 255],
     pub switches: u8,
     ghost ports_few: { count ≤ 64 },
+    ghost ports_listed: { count ≤ length ports },
+    ghost memory_listed: { switches ≤ length memory },
     ghost each_port: { (k : ℕ) → k < count → SoundPort switches (getD ports k noPort) },
     ghost each_memory: { (k : ℕ) → k < switches → getD memory k 0 ≤ 1048576 },
 }
