@@ -16,6 +16,10 @@ use Rattle.bytes.specs.Numbers.{number, tested, ranged, kindByte, value, bytes
 use Rattle.bytes.proofs.Sequence.{both-read, test-passed}
 use Rattle.bytes.proofs.Digits.{length-bytesOf, value-bytesOf, bytesOf-value, value-below}
 
+-- what is put behind what was put before
+pub put-then : (a b c x y : List ℕ) → b ≡ a ++ x → c ≡ b ++ y → c ≡ a ++ (x ++ y)
+put-then a b c x y first second = second ∙ ap (λ l. l ++ y) first ∙ append-assoc a x y
+
 pub number-written : (k n at : ℕ) (rest : List ℕ) → n < 256 ^ k →
     number k (record { at = at; rest = bytesOf k n ++ rest }) ≡ read n (record { at = at + k; rest = rest })
 unfolding number

@@ -1,3 +1,4 @@
 pub mod NetLaws
+pub mod NetBytes
 pub mod RoadLaws
 pub mod FlowLaws

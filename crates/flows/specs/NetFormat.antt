@@ -1,13 +1,13 @@
 -- The bytes of a net. Assumes nothing.
 use mathlib.Core.Bool.{Bool}
 use mathlib.Core.List.{List, [], _∷_, _++_}
-use Prim.Native.Nat.{ℕ, _+_, max}
+use Prim.Native.Nat.{ℕ, _+_, _≤_, max}
 use lib.ListN.{length}
 use Rattle.std.specs.shelf.Lists.{joined}
 use Rattle.bytes.specs.Reading.{Cursor, Outcome, Verdict, _>>=_, _>>_, pure, several, closed, start}
 use Rattle.bytes.specs.Numbers.{number, ranged, kindByte, bytesOf}
 use Rattle.flows.specs.declared.port.Port.{Port}
-use Rattle.flows.specs.Net.{NetModel}
+use Rattle.flows.specs.Net.{NetModel, SoundNet}
 
 -- a port: the switch it stands on, the switch where its wire ends, the ticks of the wire
 unfoldable pub portFrom : Cursor → Outcome Port
@@ -43,3 +43,7 @@ abbrev pub netBytes : NetModel → List ℕ
 netBytes n =
     bytesOf 1 2 ++ (bytesOf 1 (length (n .ports)) ++ (joined portBytes (n .ports) ++
     (bytesOf 1 (length (n .memories)) ++ joined (bytesOf 4) (n .memories))))
+
+-- a net of at least so many switches
+abbrev pub SoundAtLeast : ℕ → NetModel → Type 0
+SoundAtLeast least n = SoundNet n × (least ≤ length (n .memories))

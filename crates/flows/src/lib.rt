@@ -5,3 +5,4 @@ pub mod port;
 pub mod read_flow;
 pub mod read_net;
 pub mod road;
+pub mod write;

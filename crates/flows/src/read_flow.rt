@@ -4,7 +4,9 @@ ghost use mathlib.Core.List.{[]};
 ghost use Prim.Native.Nat.{_≤_};
 ghost use lib.ListN.{take};
 ghost use Rattle.bytes.specs.Answers.{cursor, part, verdict};
-ghost use Rattle.flows.specs.FlowFormat.{roadPort, roadFrom, flowFrom, flowRecord};
+ghost use Rattle.flows.specs.FlowFormat.{roadPort, roadFrom, flowFrom, flowRecord, flowBytes};
+ghost use Rattle.bytes.specs.Format.{Format};
+ghost use Rattle.flows.specs.Flow.{SoundFlow};
 ghost use Rattle.flows.specs.Models.{netOf, flowOf};
 use super::flow::Flow;
 use super::net::Net;
@@ -62,6 +64,7 @@ fn read_parts(reader: &mut Reader, net: &Net) -> Result<Flow, Fault>
 // A flow of a net.
 pub fn read_flow(piece: Piece, net: &Net) -> Result<Flow, Fault>
     ensures value { λ r. ⌜ verdict flowOf r ≡ flowRecord (netOf (now (net .entry))) (piece .entry .whole) (now (piece .entry .bytes)) ⌝ }
+    ensures format { λ _. ⌜ Format (SoundFlow (netOf (now (net .entry)))) (flowRecord (netOf (now (net .entry)))) flowBytes ⌝ }
 {
     let mut reader = Reader::new(piece.bytes);
     let flow = read_parts(&mut reader, net)?;

@@ -8,7 +8,7 @@ ghost use Rattle.bytes.specs.Numbers.{ranged};
 ghost use Rattle.bytes.specs.Answers.{cursor, part, verdict};
 ghost use Rattle.bytes.specs.Format.{Format};
 ghost use Rattle.flows.specs.Net.{portAt};
-ghost use Rattle.flows.specs.NetFormat.{portFrom, needed, netFrom, netRecord};
+ghost use Rattle.flows.specs.NetFormat.{portFrom, needed, netFrom, netRecord, netBytes, SoundAtLeast};
 ghost use Rattle.flows.specs.Models.{netOf};
 use super::net::Net;
 use super::port::Port;
@@ -90,6 +90,7 @@ fn read_parts(reader: &mut Reader, least: u16) -> Result<Net, Fault>
 // A net of at least so many switches.
 pub fn read_net(piece: Piece, least: u16) -> Result<Net, Fault>
     ensures value { λ r. ⌜ verdict netOf r ≡ netRecord least (piece .entry .whole) (now (piece .entry .bytes)) ⌝ }
+    ensures format { λ _. ⌜ Format (SoundAtLeast least) (netRecord least) netBytes ⌝ }
 {
     let mut reader = Reader::new(piece.bytes);
     let net = read_parts(&mut reader, least)?;
