@@ -53,8 +53,8 @@ ranged-bounds k low high n c after e =
 
 -- parts of one kind are as many as were asked for, and what holds of each part that is read holds of all
 pub several-all : {A : Type 0} (P : A → Type 0) (one : Cursor → Outcome A) →
-  ((v : A) (c after : Cursor) → one c ≡ read v after → P v) →
-  (n : ℕ) (vs : List A) (c after : Cursor) → several n one c ≡ read vs after → (length vs ≡ n) × All P vs
+    ((v : A) (c after : Cursor) → one c ≡ read v after → P v) →
+    (n : ℕ) (vs : List A) (c after : Cursor) → several n one c ≡ read vs after → (length vs ≡ n) × All P vs
 unfolding several
 several-all {A = A} P one each zero vs c after e =
     let none : [] ≡ vs = cc in

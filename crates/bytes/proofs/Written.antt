@@ -41,7 +41,8 @@ told-then c mid after a b first second =
     record {
       bytesAre = first .bytesAre ∙ ap (λ xs. a ++ xs) (second .bytesAre) ∙ sym (append-assoc a b (after .rest));
       onward = rw (length-append a b) (omega (arith, first .onward, second .onward));
-      left = second .left }
+      left = second .left;
+    }
 
 -- no bytes at all
 pub told-none : (c : Cursor) → All IsByte (c .rest) → Told c c []

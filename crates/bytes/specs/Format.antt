@@ -16,6 +16,6 @@ pub record Format {A : Type 0} (Sound : A → Type 0) (reading : Bool → List �
   pub canonical : (whole : Bool) (bs : List ℕ) (v : A) → All IsByte bs → reading whole bs ≡ accepted v → (bs ≡ writing v) × Sound v
   -- with fewer bytes it is refused, where the first that is missing would stand
   pub shortened : (whole : Bool) (bs : List ℕ) (v : A) → reading whole bs ≡ accepted v →
-    (m : ℕ) → m < length bs → reading true (take m bs) ≡ refused 1 m
+      (m : ℕ) → m < length bs → reading true (take m bs) ≡ refused 1 m
   -- where the input ended inside it, it is refused whatever is there
   pub cut : (bs : List ℕ) (v : A) → reading false bs ≡ accepted v → ⊥

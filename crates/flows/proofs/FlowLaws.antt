@@ -33,7 +33,7 @@ steady-flow net =
     steady-value (record { class = class; longest = longest; burst = burst; rate = rate; deadline = deadline; road = road })
 
 flow-written : (net : NetModel) → length (net .ports) ≤ 64 → (f : FlowModel) → SoundFlow net f → (at : ℕ) (rest : List ℕ) →
-  flowFrom net (record { at = at; rest = flowBytes f ++ rest }) ≡ read f (record { at = at + length (flowBytes f); rest = rest })
+    flowFrom net (record { at = at; rest = flowBytes f ++ rest }) ≡ read f (record { at = at + length (flowBytes f); rest = rest })
 unfolding flowFrom
 flow-written net few f sound at rest =
     let ranges = sound .ranges in
@@ -56,18 +56,27 @@ flow-written net few f sound at rest =
     let hops-high = ranges .roadFew in
     let size : length (flowBytes f) ≡ 14 + length (f .road) = simp (length-append, length-bytesOf) (omega arith) in
     let places : at + 1 + 1 + 1 + 2 + 4 + 4 + 1 + length (f .road) ≡ at + length (flowBytes f) = omega arith in
-    rw (append-assoc, kind-written 1 at _ one,
-        append-assoc, ranged-written 1 0 7 (f .class) (at + 1) _ class class-low class-high,
-        append-assoc, ranged-written 1 1 255 (f .longest) (at + 1 + 1) _ longest longest-low longest-high,
-        append-assoc, ranged-written 2 (f .longest) 65535 (f .burst) (at + 1 + 1 + 1) _ burst burst-low burst-high,
-        append-assoc, ranged-written 4 1 1000000 (f .rate) (at + 1 + 1 + 1 + 2) _ rate rate-low rate-high,
-        append-assoc, number-written 4 (f .deadline) (at + 1 + 1 + 1 + 2 + 4) _ deadline,
-        append-assoc, ranged-written 1 1 16 (length (f .road)) (at + 1 + 1 + 1 + 2 + 4 + 4) _ hops hops-low hops-high,
-        road-written net (f .road) [] few (sound .route) (at + 1 + 1 + 1 + 2 + 4 + 4 + 1) rest)
+    rw (
+      append-assoc,
+      kind-written 1 at _ one,
+      append-assoc,
+      ranged-written 1 0 7 (f .class) (at + 1) _ class class-low class-high,
+      append-assoc,
+      ranged-written 1 1 255 (f .longest) (at + 1 + 1) _ longest longest-low longest-high,
+      append-assoc,
+      ranged-written 2 (f .longest) 65535 (f .burst) (at + 1 + 1 + 1) _ burst burst-low burst-high,
+      append-assoc,
+      ranged-written 4 1 1000000 (f .rate) (at + 1 + 1 + 1 + 2) _ rate rate-low rate-high,
+      append-assoc,
+      number-written 4 (f .deadline) (at + 1 + 1 + 1 + 2 + 4) _ deadline,
+      append-assoc,
+      ranged-written 1 1 16 (length (f .road)) (at + 1 + 1 + 1 + 2 + 4 + 4) _ hops hops-low hops-high,
+      road-written net (f .road) [] few (sound .route) (at + 1 + 1 + 1 + 2 + 4 + 4 + 1) rest,
+    )
     (ap (λ n. read f (record { at = n; rest = rest })) places)
 
 flow-told : (net : NetModel) (f : FlowModel) (c after : Cursor) → flowFrom net c ≡ read f after → All IsByte (c .rest) →
-  SoundFlow net f × Told c after (flowBytes f)
+    SoundFlow net f × Told c after (flowBytes f)
 unfolding flowFrom
 flow-told net f c after e bytes =
     let kind = both-read (kindByte 1 c) _ f after e in
@@ -96,20 +105,30 @@ flow-told net f c after e bytes =
     let is : value ≡ f = same-value (road .3) in
     let ends : road .1 ≡ after = same-place (road .3) in
     let P : FlowModel → Cursor → Type 0 = λ g d. SoundFlow net g × Told c d (flowBytes g) in
-    subst₂ P is ends
-      (record {
-         ranges = record {
-           classLow = class-is .1; longestSome = longest-is .0; longestByte = longest-is .1;
-           burstHolds = burst-is .0; burstShort = burst-is .1; rateSome = rate-is .0; rateWhole = rate-is .1;
-           deadlineWord = deadline-is .0; roadSome = subst Some size (hops-is .0); roadFew = subst Few size (hops-is .1) };
-         route = route .1 },
-       told-then c (kind .1) (road .1) _ _ (kind-is .1)
-       (told-then (kind .1) (class .1) (road .1) _ _ (class-is .3)
-       (told-then (class .1) (longest .1) (road .1) _ _ (longest-is .3)
-       (told-then (longest .1) (burst .1) (road .1) _ _ (burst-is .3)
-       (told-then (burst .1) (rate .1) (road .1) _ _ (rate-is .3)
-       (told-then (rate .1) (deadline .1) (road .1) _ _ (deadline-is .1)
-       (told-then (deadline .1) (hops .1) (road .1) _ _ (subst Count size (hops-is .3)) (subst Ports (sym (ports .1)) (ports .2)))))))))
+    subst₂ P is ends (
+      record {
+        ranges = record {
+          classLow = class-is .1;
+          longestSome = longest-is .0;
+          longestByte = longest-is .1;
+          burstHolds = burst-is .0;
+          burstShort = burst-is .1;
+          rateSome = rate-is .0;
+          rateWhole = rate-is .1;
+          deadlineWord = deadline-is .0;
+          roadSome = subst Some size (hops-is .0);
+          roadFew = subst Few size (hops-is .1);
+        };
+        route = route .1;
+      },
+      told-then c (kind .1) (road .1) _ _ (kind-is .1)
+          (told-then (kind .1) (class .1) (road .1) _ _ (class-is .3)
+          (told-then (class .1) (longest .1) (road .1) _ _ (longest-is .3)
+          (told-then (longest .1) (burst .1) (road .1) _ _ (burst-is .3)
+          (told-then (burst .1) (rate .1) (road .1) _ _ (rate-is .3)
+          (told-then (rate .1) (deadline .1) (road .1) _ _ (deadline-is .1)
+          (told-then (deadline .1) (hops .1) (road .1) _ _ (subst Count size (hops-is .3)) (subst Ports (sym (ports .1)) (ports .2)))))))),
+    )
 
 pub flow-format : (net : NetModel) → length (net .ports) ≤ 64 → Format (SoundFlow net) (flowRecord net) flowBytes
 flow-format net few = format-of (SoundFlow net) (flowFrom net) flowBytes (steady-flow net) (flow-written net few) (flow-told net)

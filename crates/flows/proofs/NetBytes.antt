@@ -33,15 +33,20 @@ steady-port =
     steady-value (record { switch = switch; ends = ends; wire = wire })
 
 port-written : (p : Port) → Fitting p → (at : ℕ) (rest : List ℕ) →
-  portFrom (record { at = at; rest = portBytes p ++ rest }) ≡ read p (record { at = at + length (portBytes p); rest = rest })
+    portFrom (record { at = at; rest = portBytes p ++ rest }) ≡ read p (record { at = at + length (portBytes p); rest = rest })
 unfolding portFrom
 port-written p fits at rest =
     let wire : p .wire < 256 ^ 2 = omega (arith, fits .2) in
     let low : 0 ≤ p .wire = omega arith in
     let size : length (portBytes p) ≡ 4 = simp (length-append, length-bytesOf) refl in
     let places : at + 1 + 1 + 2 ≡ at + length (portBytes p) = omega arith in
-    rw (append-assoc, number-written 1 (p .switch) at _ (fits .0), append-assoc, number-written 1 (p .ends) (at + 1) _ (fits .1),
-        ranged-written 2 0 1023 (p .wire) (at + 1 + 1) rest wire low (fits .2))
+    rw (
+      append-assoc,
+      number-written 1 (p .switch) at _ (fits .0),
+      append-assoc,
+      number-written 1 (p .ends) (at + 1) _ (fits .1),
+      ranged-written 2 0 1023 (p .wire) (at + 1 + 1) rest wire low (fits .2),
+    )
     (ap (λ n. read p (record { at = n; rest = rest })) places)
 
 port-told : (p : Port) (c after : Cursor) → portFrom c ≡ read p after → All IsByte (c .rest) → Fitting p × Told c after (portBytes p)
@@ -54,9 +59,10 @@ port-told p c after e bytes =
     let wire = both-read (ranged 2 0 1023 (ends .1)) _ p after (ends .3) in
     let wire-is = ranged-told 2 0 1023 (wire .0) (ends .1) (wire .1) (wire .2) (ends-is .1 .left) in
     let P : Port → Cursor → Type 0 = λ q d. Fitting q × Told c d (portBytes q) in
-    subst₂ P (same-value (wire .3)) (same-place (wire .3))
-      ((switch-is .0, ends-is .0, wire-is .1),
-       told-then c (switch .1) (wire .1) _ _ (switch-is .1) (told-then (switch .1) (ends .1) (wire .1) _ _ (ends-is .1) (wire-is .3)))
+    subst₂ P (same-value (wire .3)) (same-place (wire .3)) (
+      (switch-is .0, ends-is .0, wire-is .1),
+      told-then c (switch .1) (wire .1) _ _ (switch-is .1) (told-then (switch .1) (ends .1) (wire .1) _ _ (ends-is .1) (wire-is .3)),
+    )
 
 -- where each switch that a port names is there, there are as many as are needed
 needed-enough : (least s : ℕ) (ports : List Port) → least ≤ s → All (SoundPort s) ports → needed least ports ≤ s
@@ -80,7 +86,7 @@ steady-net least =
     steady-value (record { ports = ports; memories = memories })
 
 memory-written : (m : ℕ) → m ≤ 1048576 → (at : ℕ) (rest : List ℕ) →
-  ranged 4 0 1048576 (record { at = at; rest = bytesOf 4 m ++ rest }) ≡ read m (record { at = at + length (bytesOf 4 m); rest = rest })
+    ranged 4 0 1048576 (record { at = at; rest = bytesOf 4 m ++ rest }) ≡ read m (record { at = at + length (bytesOf 4 m); rest = rest })
 memory-written m few at rest =
     let fits : m < 256 ^ 4 = omega arith in
     let low : 0 ≤ m = omega arith in
@@ -90,7 +96,7 @@ memory-told : (m : ℕ) (c after : Cursor) → ranged 4 0 1048576 c ≡ read m a
 memory-told m c after e bytes = let told = ranged-told 4 0 1048576 m c after e bytes in (told .1, told .3)
 
 net-written : (least : ℕ) (n : NetModel) → SoundAtLeast least n → (at : ℕ) (rest : List ℕ) →
-  netFrom least (record { at = at; rest = netBytes n ++ rest }) ≡ read n (record { at = at + length (netBytes n); rest = rest })
+    netFrom least (record { at = at; rest = netBytes n ++ rest }) ≡ read n (record { at = at + length (netBytes n); rest = rest })
 unfolding netFrom
 net-written least n sound at rest =
     let net = sound .0 in
@@ -101,17 +107,23 @@ net-written least n sound at rest =
     let enough = needed-enough least (length (n .memories)) (n .ports) (sound .1) (net .eachPort) in
     let ports = fitting (length (n .memories)) (net .switchesFew) (n .ports) (net .eachPort) in
     let sizes : length (netBytes n) ≡ 1 + (1 + (length (joined portBytes (n .ports)) + (1 + length (joined (bytesOf 4) (n .memories))))) =
-      simp (length-append, length-bytesOf) refl in
+    simp (length-append, length-bytesOf) refl in
     let places : at + 1 + 1 + length (joined portBytes (n .ports)) + 1 + length (joined (bytesOf 4) (n .memories)) ≡ at + length (netBytes n) = omega arith in
-    rw (append-assoc, kind-written 2 at _ two,
-        append-assoc, ranged-written 1 0 64 (length (n .ports)) (at + 1) _ count count-low (net .portsFew),
-        append-assoc, several-written Fitting portFrom portBytes port-written (n .ports) ports (at + 1 + 1) _,
-        append-assoc, ranged-written 1 (needed least (n .ports)) 255 (length (n .memories)) _ _ switches enough (net .switchesFew),
-        several-written (λ m. m ≤ 1048576) (ranged 4 0 1048576) (bytesOf 4) memory-written (n .memories) (net .eachMemory) _ rest)
+    rw (
+      append-assoc,
+      kind-written 2 at _ two,
+      append-assoc,
+      ranged-written 1 0 64 (length (n .ports)) (at + 1) _ count count-low (net .portsFew),
+      append-assoc,
+      several-written Fitting portFrom portBytes port-written (n .ports) ports (at + 1 + 1) _,
+      append-assoc,
+      ranged-written 1 (needed least (n .ports)) 255 (length (n .memories)) _ _ switches enough (net .switchesFew),
+      several-written (λ m. m ≤ 1048576) (ranged 4 0 1048576) (bytesOf 4) memory-written (n .memories) (net .eachMemory) _ rest,
+    )
     (ap (λ m. read n (record { at = m; rest = rest })) places)
 
 net-told : (least : ℕ) (n : NetModel) (c after : Cursor) → netFrom least c ≡ read n after → All IsByte (c .rest) →
-  SoundAtLeast least n × Told c after (netBytes n)
+    SoundAtLeast least n × Told c after (netBytes n)
 unfolding netFrom
 net-told least n c after e bytes =
     let kind = both-read (kindByte 2 c) _ n after e in
@@ -126,13 +138,14 @@ net-told least n c after e bytes =
     let memories-are = several-told (λ m. m ≤ 1048576) (ranged 4 0 1048576) (bytesOf 4) memory-told (switches .0) (memories .0) (switches .1) (memories .1) (memories .2) (switches-are .3 .left) in
     let Count : ℕ → Type 0 = λ m. Told (kind .1) (count .1) (bytesOf 1 m) in
     let Switches : ℕ → Type 0 = λ m. Told (ports .1) (switches .1) (bytesOf 1 m) in
-    let P : NetModel → Cursor → Type 0 = λ m d. Told c d (netBytes m) in
-    (net-sound least n c after e,
-     subst₂ P (same-value (memories .3)) (same-place (memories .3))
-       (told-then c (kind .1) (memories .1) _ _ (kind-is .1)
-       (told-then (kind .1) (count .1) (memories .1) _ _ (subst Count (sym (ports-are .0)) (count-is .3))
-       (told-then (count .1) (ports .1) (memories .1) _ _ (ports-are .2)
-       (told-then (ports .1) (switches .1) (memories .1) _ _ (subst Switches (sym (memories-are .0)) (switches-are .3)) (memories-are .2))))))
+    let P : NetModel → Cursor → Type 0 = λ m d. Told c d (netBytes m) in (
+      net-sound least n c after e,
+      subst₂ P (same-value (memories .3)) (same-place (memories .3))
+          (told-then c (kind .1) (memories .1) _ _ (kind-is .1)
+          (told-then (kind .1) (count .1) (memories .1) _ _ (subst Count (sym (ports-are .0)) (count-is .3))
+          (told-then (count .1) (ports .1) (memories .1) _ _ (ports-are .2)
+          (told-then (ports .1) (switches .1) (memories .1) _ _ (subst Switches (sym (memories-are .0)) (switches-are .3)) (memories-are .2))))),
+    )
 
 pub net-format : (least : ℕ) → Format (SoundAtLeast least) (netRecord least) netBytes
 net-format least = format-of (SoundAtLeast least) (netFrom least) netBytes (steady-net least) (net-written least) (net-told least)

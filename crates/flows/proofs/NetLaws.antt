@@ -29,7 +29,7 @@ port-wire p c after e =
 
 -- where there are as many switches as are needed, each that a port names is there
 pub needed-names : (least s : ℕ) (ports : List Port) → needed least ports ≤ s →
-  (least ≤ s) × All (λ (p : Port). (p .switch < s) × (p .ends < s)) ports
+    (least ≤ s) × All (λ (p : Port). (p .switch < s) × (p .ends < s)) ports
 unfolding needed
 needed-names least s [] enough = (enough, tt)
 needed-names least s (p ∷ ps) enough =
@@ -38,13 +38,13 @@ needed-names least s (p ∷ ps) enough =
     (omega arith, ((omega arith, omega arith), more .1))
 
 both-hold : (switches : ℕ) (ports : List Port) → All (λ (p : Port). (p .switch < switches) × (p .ends < switches)) ports →
-  All (λ (p : Port). p .wire ≤ 1023) ports → All (SoundPort switches) ports
+    All (λ (p : Port). p .wire ≤ 1023) ports → All (SoundPort switches) ports
 both-hold switches [] named wires = tt
 both-hold switches (p ∷ ps) named wires = ((named .0 .0, named .0 .1, wires .0), both-hold switches ps (named .1) (wires .1))
 
 -- a net that is read is sound, and has as many switches as were asked for
 pub net-sound : (least : ℕ) (net : NetModel) (c after : Cursor) → netFrom least c ≡ read net after →
-  SoundNet net × (least ≤ length (net .memories))
+    SoundNet net × (least ≤ length (net .memories))
 unfolding netFrom
 net-sound least net c after e =
     let kind = both-read (kindByte 2 c) _ net after e in
@@ -58,33 +58,45 @@ net-sound least net c after e =
     let enough = ranged-bounds 1 (needed least (ports .0)) 255 (switches .0) (ports .1) (switches .1) (switches .2) in
     let wires = several-all (λ (p : Port). p .wire ≤ 1023) portFrom port-wire (count .0) (ports .0) (count .1) (ports .1) (ports .2) in
     let sizes = several-all (λ m. m ≤ 1048576) (ranged 4 0 1048576) (λ m d f g. ranged-bounds 4 0 1048576 m d f g .1)
-      (switches .0) (memories .0) (switches .1) (memories .1) (memories .2) in
+    (switches .0) (memories .0) (switches .1) (memories .1) (memories .2) in
     let size : switches .0 ≡ length (memories .0) = sym (sizes .0) in
     let names = needed-names least (length (memories .0)) (ports .0) (rw size at (enough .0)) in
     let P : NetModel → Type 0 = λ n. SoundNet n × (least ≤ length (n .memories)) in
-    subst P is
-      (record {
-         portsFew = omega (arith, wires .0, few .1);
-         switchesFew = omega (arith, size, enough .1);
-         eachPort = both-hold (length (memories .0)) (ports .0) (names .1) (wires .1);
-         eachMemory = sizes .1 },
-       names .0)
+    subst P is (
+      record {
+        portsFew = omega (arith, wires .0, few .1);
+        switchesFew = omega (arith, size, enough .1);
+        eachPort = both-hold (length (memories .0)) (ports .0) (names .1) (wires .1);
+        eachMemory = sizes .1;
+      },
+      names .0,
+    )
 
 pub in-table : {A : Type 0} (n : ℕ) (xs : List A) → length (take n xs) ≡ n → n ≤ length xs
 in-table n xs size = omega (arith, length-take n xs)
 
 -- what holds of the ports and memories that are in use, place by place
 pub places-sound : (ports : List Port) (count : ℕ) (memory : List ℕ) (switches : ℕ) →
-  length (take count ports) ≡ count → length (take switches memory) ≡ switches → SoundNet (netModel ports count memory switches) →
-  (count ≤ 64) × ((count ≤ length ports) × ((switches ≤ length memory) × (((k : ℕ) → k < count → SoundPort switches (getD ports k noPort)) × (((k : ℕ) → k < switches → getD memory k 0 ≤ 1048576) × Unit {0}))))
-places-sound ports count memory switches ports-size memory-size sound =
-    (rw ports-size at (sound .portsFew),
-     (in-table count ports ports-size, (in-table switches memory memory-size,
-     ((λ k h.
-         let all : All (SoundPort switches) (take count ports) = rw memory-size at (sound .eachPort) in
-         let there : k < length (take count ports) = omega arith in
-         rw (getD-take count ports k noPort h) at (all-getD (SoundPort switches) (take count ports) k noPort there all)),
-      ((λ k h.
-          let there : k < length (take switches memory) = omega arith in
-          rw (getD-take switches memory k 0 h) at (all-getD (λ m. m ≤ 1048576) (take switches memory) k 0 there (sound .eachMemory))),
-       tt)))))
+    length (take count ports) ≡ count → length (take switches memory) ≡ switches → SoundNet (netModel ports count memory switches) →
+    (count ≤ 64) × ((count ≤ length ports) × ((switches ≤ length memory) × (((k : ℕ) → k < count → SoundPort switches (getD ports k noPort)) × (((k : ℕ) → k < switches → getD memory k 0 ≤ 1048576) × Unit {0}))))
+places-sound ports count memory switches ports-size memory-size sound = (
+  rw ports-size at (sound .portsFew),
+  (
+    in-table count ports ports-size,
+    (
+      in-table switches memory memory-size,
+      (
+        (λ k h.
+            let all : All (SoundPort switches) (take count ports) = rw memory-size at (sound .eachPort) in
+            let there : k < length (take count ports) = omega arith in
+            rw (getD-take count ports k noPort h) at (all-getD (SoundPort switches) (take count ports) k noPort there all)),
+        (
+          (λ k h.
+              let there : k < length (take switches memory) = omega arith in
+              rw (getD-take switches memory k 0 h) at (all-getD (λ m. m ≤ 1048576) (take switches memory) k 0 there (sound .eachMemory))),
+          tt,
+        ),
+      ),
+    ),
+  ),
+)

@@ -28,7 +28,7 @@ joins-first net [] p none = refl
 joins-first net (q ∷ qs) p none = absurd (omega arith)
 
 pub joins-last : (net : NetModel) (road : List ℕ) (p last : ℕ) → 0 < length road → last ≡ getD road (length road - 1) last →
-  eqb (portAt net last .ends) (portAt net p .switch) ≡ joins net road p
+    eqb (portAt net last .ends) (portAt net p .switch) ≡ joins net road p
 unfolding joins
 joins-last net [] p last some is = absurd (omega arith)
 joins-last net (q ∷ []) p last some is = let e : last ≡ q = is in rw e refl
@@ -38,7 +38,6 @@ joins-last net (q ∷ r ∷ rs) p last some is =
 
 -- the next port of a road, in the order in which it is judged
 module _ (net : NetModel) (road : List ℕ) (c : Cursor) where
-
   pub port-missing : (place : ℕ) → fault 1 place ≡ number 1 c → fault 1 place ≡ roadPort net road c
   unfolding roadPort
   port-missing place is = rw (← is) refl
@@ -48,23 +47,22 @@ module _ (net : NetModel) (road : List ℕ) (c : Cursor) where
   port-unknown p after is past = rw (← is, le-ltb p (length (net .ports)) past) refl
 
   pub port-barred : (p : ℕ) (after : Cursor) → read p after ≡ number 1 c → p < length (net .ports) →
-    (not (passes p road) && joins net road p) ≡ false → fault 3 (c .at) ≡ roadPort net road c
+      (not (passes p road) && joins net road p) ≡ false → fault 3 (c .at) ≡ roadPort net road c
   unfolding roadPort
   port-barred p after is known barred = rw (← is, lt-ltb p (length (net .ports)) known, barred) refl
 
   pub port-taken : (p : ℕ) (after : Cursor) → read p after ≡ number 1 c → p < length (net .ports) →
-    (not (passes p road) && joins net road p) ≡ true → read p after ≡ roadPort net road c
+      (not (passes p road) && joins net road p) ≡ true → read p after ≡ roadPort net road c
   unfolding roadPort
   port-taken p after is known may = rw (← is, lt-ltb p (length (net .ports)) known, may) refl
 
 -- A loop that reads a road of n ports into a table, of which i are there: a turn, a fault, and its end.
 module _ (net : NetModel) (n i : ℕ) (table : List ℕ) (c : Cursor) (whole : Outcome (List ℕ)) where
-
   abbrev pub Goes : Type 0
   Goes = roadFrom net (n - i) (take i table) c ≡ whole
 
   pub goes-on : (p : ℕ) (after : Cursor) → i < n → i < length table → read p after ≡ roadPort net (take i table) c → Goes →
-    roadFrom net (n - (i + 1)) (take (i + 1) (set table i p)) after ≡ whole
+      roadFrom net (n - (i + 1)) (take (i + 1) (set table i p)) after ≡ whole
   unfolding roadFrom
   goes-on p after more room is goes =
       let e : n - i ≡ suc (n - (i + 1)) = omega arith in
@@ -105,12 +103,13 @@ joined-push net (q ∷ []) p joined may = (sym (eqb-true _ _ may), tt)
 joined-push net (q ∷ r ∷ rs) p joined may = (joined .0, joined-push net (r ∷ rs) p (joined .1) may)
 
 pub road-push : (net : NetModel) (road : List ℕ) (p : ℕ) → IsRoad net road → p < length (net .ports) → passes p road ≡ false →
-  joins net road p ≡ true → IsRoad net (road ++ p ∷ [])
+    joins net road p ≡ true → IsRoad net (road ++ p ∷ [])
 road-push net road p is known apart may =
     record {
       known = all-push (λ q. q < length (net .ports)) road p (is .known) known;
       once = once-push road p (is .once) apart;
-      connected = joined-push net road p (is .connected) may }
+      connected = joined-push net road p (is .connected) may;
+    }
 
 -- what a road says of a port on it and those before it
 once-split : (road ps : List ℕ) (p : ℕ) → Once (road ++ p ∷ ps) → passes p road ≡ false
@@ -134,15 +133,15 @@ known-split P [] ps p all = all .0
 known-split P (q ∷ qs) ps p all = known-split P qs ps p (all .1)
 
 port-told : (net : NetModel) (road : List ℕ) (p : ℕ) (c after : Cursor) → roadPort net road c ≡ read p after →
-  (number 1 c ≡ read p after) × (p < length (net .ports)) × (passes p road ≡ false) × (joins net road p ≡ true)
+    (number 1 c ≡ read p after) × (p < length (net .ports)) × (passes p road ≡ false) × (joins net road p ≡ true)
 unfolding roadPort
 port-told net road p c after e =
     let got = both-read (number 1 c) _ p after e in
     judged (got .0) (got .1) (got .2) (ltb (got .0) (length (net .ports))) refl (got .3)
   where
     judged : (q : ℕ) (d : Cursor) → number 1 c ≡ read q d → (b : Bool) → ltb q (length (net .ports)) ≡ b →
-      cond b (cond (not (passes q road) && joins net road q) (read q d) (fault 3 (c .at))) (fault 2 (c .at)) ≡ read p after →
-      (number 1 c ≡ read p after) × (p < length (net .ports)) × (passes p road ≡ false) × (joins net road p ≡ true)
+        cond b (cond (not (passes q road) && joins net road q) (read q d) (fault 3 (c .at))) (fault 2 (c .at)) ≡ read p after →
+        (number 1 c ≡ read p after) × (p < length (net .ports)) × (passes p road ≡ false) × (joins net road p ≡ true)
     judged q d is false past e = let z : _≡_ {A = ℕ} 0 1 = cc in absurd (omega arith)
     judged q d is true known e =
         let passed = test-passed (not (passes q road) && joins net road q) q p d after 3 _ e in
@@ -153,7 +152,7 @@ port-told net road p c after e =
 
 -- a road that is read goes on from what was there, and is one
 pub road-told : (net : NetModel) (n : ℕ) (road ps : List ℕ) (c after : Cursor) → roadFrom net n road c ≡ read ps after → IsRoad net road →
-  (length ps ≡ length road + n) × IsRoad net ps
+    (length ps ≡ length road + n) × IsRoad net ps
 unfolding roadFrom
 road-told net zero road ps c after e is =
     let same : road ≡ ps = cc in
@@ -167,7 +166,7 @@ road-told net (suc n) road ps c after e is =
 
 -- the bytes of a road are its ports
 pub road-bytes : (net : NetModel) (n : ℕ) (road ps : List ℕ) (c after : Cursor) → roadFrom net n road c ≡ read ps after → All IsByte (c .rest) →
-  (qs : List ℕ) × (ps ≡ road ++ qs) × Told c after qs
+    (qs : List ℕ) × (ps ≡ road ++ qs) × Told c after qs
 unfolding roadFrom
 road-bytes net zero road ps c after e bytes =
     let same : road ≡ ps = cc in
@@ -184,7 +183,7 @@ road-bytes net (suc n) road ps c after e bytes =
 
 -- a road that was written is read
 pub road-written : (net : NetModel) (ps road : List ℕ) → length (net .ports) ≤ 64 → IsRoad net (road ++ ps) → (at : ℕ) (rest : List ℕ) →
-  roadFrom net (length ps) road (record { at = at; rest = ps ++ rest }) ≡ read (road ++ ps) (record { at = at + length ps; rest = rest })
+    roadFrom net (length ps) road (record { at = at; rest = ps ++ rest }) ≡ read (road ++ ps) (record { at = at + length ps; rest = rest })
 unfolding roadFrom
 road-written net [] road few is at rest = rw (add-zero at, append-nil road) refl
 road-written net (p ∷ ps) road few is at rest =
@@ -192,9 +191,9 @@ road-written net (p ∷ ps) road few is at rest =
     let apart = once-split road ps p (is .once) in
     let may = joined-split net road ps p (is .connected) in
     let single : number 1 (record { at = at; rest = p ∷ (ps ++ rest) }) ≡ read p (record { at = at + 1; rest = ps ++ rest }) =
-      rw (bytesOf-one p) at (number-written 1 p at (ps ++ rest) (omega arith)) in
+    rw (bytesOf-one p) at (number-written 1 p at (ps ++ rest) (omega arith)) in
     let one = port-taken net road (record { at = at; rest = p ∷ (ps ++ rest) }) p (record { at = at + 1; rest = ps ++ rest }) (sym single) known
-      (and-from _ _ (not-from-false _ apart) may) in
+    (and-from _ _ (not-from-false _ apart) may) in
     let regroup : road ++ p ∷ [] ++ ps ≡ road ++ p ∷ ps = append-assoc road (p ∷ []) ps in
     let P : List ℕ → Type 0 = IsRoad net in
     let more = road-written net ps (road ++ p ∷ []) few (subst P (sym regroup) is) (at + 1) rest in
@@ -205,13 +204,15 @@ steady-port : (net : NetModel) (road : List ℕ) → Steady (roadPort net road)
 steady-port net road c after p e =
     let port = port-told net road p c after e in
     let one = steady-number 1 c after p (port .0) in
-    let may = and-from (not (passes p road)) (joins net road p) (not-from-false (passes p road) (port .2)) (port .3) in
-    (one .0,
-     record {
-       enough = one .1 .enough;
-       onward = one .1 .onward;
-       longer = λ m h. sym (port-taken net road (cutTo m c) p (cutTo (m - one .0) after) (sym (one .1 .longer m h)) (port .1) may);
-       shorter = λ m h. sym (port-missing net road (cutTo m c) (c .at + m) (sym (one .1 .shorter m h))) })
+    let may = and-from (not (passes p road)) (joins net road p) (not-from-false (passes p road) (port .2)) (port .3) in (
+      one .0,
+      record {
+        enough = one .1 .enough;
+        onward = one .1 .onward;
+        longer = λ m h. sym (port-taken net road (cutTo m c) p (cutTo (m - one .0) after) (sym (one .1 .longer m h)) (port .1) may);
+        shorter = λ m h. sym (port-missing net road (cutTo m c) (c .at + m) (sym (one .1 .shorter m h)));
+      },
+    )
 
 pub steady-road : (net : NetModel) (n : ℕ) (road : List ℕ) → Steady (roadFrom net n road)
 unfolding roadFrom
@@ -220,13 +221,14 @@ steady-road net (suc n) road = steady-then (roadPort net road) _ (steady-port ne
 
 -- a road in a table, place by place
 pub road-places : (net : NetModel) (n : ℕ) (table : List ℕ) (c after : Cursor) → length (net .ports) ≤ 64 →
-  read (take n table) after ≡ roadFrom net n [] c → (n ≤ length table) × ((k : ℕ) → k < n → getD table k 0 < 64)
+    read (take n table) after ≡ roadFrom net n [] c → (n ≤ length table) × ((k : ℕ) → k < n → getD table k 0 < 64)
 road-places net n table c after few e =
     let told = road-told net n [] (take n table) c after (sym e) (record { known = tt; once = tt; connected = tt }) in
-    let size : length (take n table) ≡ n = told .0 ∙ zero-add n in
-    (in-table n table size,
-     λ k h.
-       let there : k < length (take n table) = omega arith in
-       let known = all-getD (λ p. p < length (net .ports)) (take n table) k 0 there (told .1 .known) in
-       let here : getD table k 0 < length (net .ports) = rw (getD-take n table k 0 h) at known in
-       omega arith)
+    let size : length (take n table) ≡ n = told .0 ∙ zero-add n in (
+      in-table n table size,
+      λ k h.
+          let there : k < length (take n table) = omega arith in
+          let known = all-getD (λ p. p < length (net .ports)) (take n table) k 0 there (told .1 .known) in
+          let here : getD table k 0 < length (net .ports) = rw (getD-take n table k 0 h) at known in
+          omega arith,
+    )

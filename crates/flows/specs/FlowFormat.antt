@@ -24,9 +24,9 @@ joins net (q ∷ r ∷ rs) p = joins net (r ∷ rs) p
 unfoldable pub roadPort : NetModel → List ℕ → Cursor → Outcome ℕ
 roadPort net road c =
     andThen (number 1 c) (λ p after.
-      cond (ltb p (length (net .ports)))
-        (cond (not (passes p road) && joins net road p) (read p after) (fault 3 (c .at)))
-        (fault 2 (c .at)))
+    cond (ltb p (length (net .ports)))
+    (cond (not (passes p road) && joins net road p) (read p after) (fault 3 (c .at)))
+    (fault 2 (c .at)))
 
 -- n more ports of a road
 unfoldable pub roadFrom : NetModel → ℕ → List ℕ → Cursor → Outcome (List ℕ)

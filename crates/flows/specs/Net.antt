@@ -1,6 +1,6 @@
 -- Nets: ports, the wires they send into, and switches with their memory. Assumes nothing.
 use mathlib.Core.List.{List, [], _∷_}
-use Prim.Native.Nat.{ℕ, _≤_, _<_}
+use Prim.Native.Nat.{ℕ, _+_, _≤_, _<_}
 use lib.ListN.{length, getD, take}
 use Rattle.std.specs.shelf.Lists.{All}
 use Rattle.flows.specs.declared.port.Port.{Port}
@@ -31,3 +31,12 @@ pub record SoundNet (net : NetModel) : Type 0 where
 -- a net in a table of 64 ports and one of 255 memories, of which the first count and the first switches are in use
 abbrev pub netModel : List Port → ℕ → List ℕ → ℕ → NetModel
 netModel ports count memory switches = record { ports = take count ports; memories = take switches memory }
+
+-- no ports and no switches
+abbrev pub noNet : NetModel
+noNet = record { ports = []; memories = [] }
+
+-- the memories of all switches together
+unfoldable pub together : List ℕ → ℕ
+together [] = 0
+together (m ∷ ms) = m + together ms

@@ -1,6 +1,7 @@
 // Flows and nets: what they are, and the bytes they are read from and written to.
 pub mod flow;
 pub mod net;
+pub mod net_values;
 pub mod port;
 pub mod read_flow;
 pub mod read_net;

@@ -58,7 +58,15 @@ fn read_parts(reader: &mut Reader, net: &Net) -> Result<Flow, Fault>
     };
     let hops = reader.byte_in(1, 16)?;
     let road = read_road(reader, net, hops)?;
-    Ok(Flow { class, longest, burst, rate, deadline, road, hops })
+    Ok(Flow {
+        class,
+        longest,
+        burst,
+        rate,
+        deadline,
+        road,
+        hops,
+    })
 }
 
 // A flow of a net.

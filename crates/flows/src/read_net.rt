@@ -7,7 +7,6 @@ ghost use Rattle.bytes.specs.Reading.{several};
 ghost use Rattle.bytes.specs.Numbers.{ranged};
 ghost use Rattle.bytes.specs.Answers.{cursor, part, verdict};
 ghost use Rattle.bytes.specs.Format.{Format};
-ghost use Rattle.flows.specs.Net.{portAt};
 ghost use Rattle.flows.specs.NetFormat.{portFrom, needed, netFrom, netRecord, netBytes, SoundAtLeast};
 ghost use Rattle.flows.specs.Models.{netOf};
 use super::net::Net;
@@ -15,18 +14,6 @@ use super::port::Port;
 use bytes::fault::Fault;
 use bytes::piece::Piece;
 use bytes::reader::Reader;
-
-impl Net {
-    // The port of this number; one of zeros where there is none.
-    pub fn port(&self, number: u8) -> Port
-        ensures { λ r. ⌜ r ≡ portAt (netOf (now (self .entry))) number ⌝ }
-    {
-        if number < self.count {
-            return self.ports[number as usize];
-        }
-        Port { switch: 0, ends: 0, wire: 0 }
-    }
-}
 
 fn read_port(reader: &mut Reader) -> Result<Port, Fault>
     ensures { λ r. ⌜ part (λ p. p) r (cursor (now (reader .exit))) ≡ portFrom (cursor (now (reader .entry))) ⌝ }
@@ -45,7 +32,11 @@ fn read_ports(reader: &mut Reader, count: u8) -> Result<[Port; 64], Fault>
     requires { ⌜ count ≤ 64 ⌝ }
     ensures { λ r. ⌜ part (take count) r (cursor (now (reader .exit))) ≡ several count portFrom (cursor (now (reader .entry))) ⌝ }
 {
-    let mut ports = [Port { switch: 0, ends: 0, wire: 0 }; 64];
+    let mut ports = [Port {
+        switch: 0,
+        ends: 0,
+        wire: 0,
+    }; 64];
     for i in 0..count as usize {
         let port = read_port(reader)?;
         ports[i] = port;
@@ -84,7 +75,12 @@ fn read_parts(reader: &mut Reader, least: u16) -> Result<Net, Fault>
     let needed = switches_needed(least, &ports[0..count as usize]);
     let switches = reader.byte_in(needed, 255)?;
     let memory = read_memories(reader, switches)?;
-    Ok(Net { ports, count, memory, switches })
+    Ok(Net {
+        ports,
+        count,
+        memory,
+        switches,
+    })
 }
 
 // A net of at least so many switches.

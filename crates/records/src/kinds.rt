@@ -43,13 +43,7 @@ fn kind_at(program: Program, stage: Stage, first: u8) -> Kind
                 Kind::Unknown
             }
         }
-        Stage::NoNet => {
-            if first == 2 {
-                Kind::Net
-            } else {
-                Kind::Unknown
-            }
-        }
+        Stage::NoNet => { if first == 2 { Kind::Net } else { Kind::Unknown } }
         Stage::Still => {
             if first == 1 {
                 Kind::Flow

@@ -93,7 +93,13 @@ pub fn read_switch(piece: Piece) -> Result<Switch, Fault>
 }
 
 // A record of a kind that is known where the program stands; a net must have at least so many switches.
-pub fn read_record(program: Program, stage: Stage, net: &Net, least: u16, piece: Piece) -> Result<Record, Fault>
+pub fn read_record(
+    program: Program,
+    stage: Stage,
+    net: &Net,
+    least: u16,
+    piece: Piece,
+) -> Result<Record, Fault>
     ensures { λ r. ⌜ verdict recordOf r ≡ recordHere program stage (netOf (now (net .entry))) least (piece .entry .whole) (now (piece .entry .bytes)) ⌝ }
 {
     match kind_of(program, stage, piece.bytes) {

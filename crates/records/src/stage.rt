@@ -1,5 +1,5 @@
 // Which of the three programs reads.
-#[derive(Clone, Copy, Debug, PartialEq, Eq)]
+#[derive(Clone, Copy)]
 pub enum Program {
     Admit,
     Ports,
@@ -7,7 +7,7 @@ pub enum Program {
 }
 
 // Where a program stands: it has no switch yet, no net yet, a net that stands still, or one that runs.
-#[derive(Clone, Copy, Debug, PartialEq, Eq)]
+#[derive(Clone, Copy)]
 pub enum Stage {
     NoSwitch,
     NoNet,
@@ -16,7 +16,7 @@ pub enum Stage {
 }
 
 // What a record is, by its first byte, where a program stands.
-#[derive(Clone, Copy, Debug, PartialEq, Eq)]
+#[derive(Clone, Copy)]
 pub enum Kind {
     Unknown,
     Switch,

@@ -14,11 +14,13 @@ returns-in-Break-flow c =
     let net = c .args .net .now in
     record {
       value = search needs;
-      format = flow-format _ (rw (length-take (net .count) (net .ports)) (below (net .count) _ (net .«ports_few»))) }
+      format = flow-format _ (rw (length-take (net .count) (net .ports)) (below (net .count) _ (net .«ports_few»)));
+    }
 
 pub returns : need.returns
 returns c =
     let net = c .args .net .now in
     record {
       value = search needs;
-      format = flow-format _ (rw (length-take (net .count) (net .ports)) (below (net .count) _ (net .«ports_few»))) }
+      format = flow-format _ (rw (length-take (net .count) (net .ports)) (below (net .count) _ (net .«ports_few»)));
+    }

@@ -64,15 +64,28 @@ pub ghost-result : need.ghost-result
 ghost-result c =
     let net = c .args .net .now in
     let few : length (take (net .count) (net .ports)) ≤ 64 = rw (length-take (net .count) (net .ports)) (below (net .count) _ (net .«ports_few»)) in
-    let places = road-places _ (c .in-Continue-hops .hops) (c .in-Continue-road .road) _ _ few (c .in-Continue-road .ensures tt) in
-    (c .in-Continue-class .ensures tt .inside .1,
-     (c .in-Continue-longest .ensures tt .inside .0,
-      (c .in-Continue-burst .ensures tt .inside .0,
-       (c .in-Continue-rate .ensures tt .inside .0,
-        (c .in-Continue-rate .ensures tt .inside .1,
-         (c .in-Continue-hops .ensures tt .inside .0,
-          (c .in-Continue-hops .ensures tt .inside .1,
-           (places .0, (places .1, tt)))))))))
+    let places = road-places _ (c .in-Continue-hops .hops) (c .in-Continue-road .road) _ _ few (c .in-Continue-road .ensures tt) in (
+      c .in-Continue-class .ensures tt .inside .1,
+      (
+        c .in-Continue-longest .ensures tt .inside .0,
+        (
+          c .in-Continue-burst .ensures tt .inside .0,
+          (
+            c .in-Continue-rate .ensures tt .inside .0,
+            (
+              c .in-Continue-rate .ensures tt .inside .1,
+              (
+                c .in-Continue-hops .ensures tt .inside .0,
+                (
+                  c .in-Continue-hops .ensures tt .inside .1,
+                  (places .0, (places .1, tt)),
+                ),
+              ),
+            ),
+          ),
+        ),
+      ),
+    )
   where
     below : (m n : ℕ) → m ≤ 64 → min m n ≤ 64
     below m n h = omega arith

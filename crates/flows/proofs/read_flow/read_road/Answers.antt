@@ -15,9 +15,10 @@ returns-in-Break-port c =
 
 pub loop-i-again : need.loop-i-again
 loop-i-again c =
-    let e : c .loop-i .i - 0 ≡ c .loop-i .i = omega arith in
-    (length-set (c .loop-i .road) (c .loop-i .i) _ ∙ c .loop-i .inv .0,
-     goes-on _ _ (c .loop-i .i) (c .loop-i .road) _ _ _ _ (c .loop-i-test .taken) (omega (arith, c .loop-i .inv .0)) (rw e at (c .in-Continue-port .ensures tt)) (c .loop-i .inv .1))
+    let e : c .loop-i .i - 0 ≡ c .loop-i .i = omega arith in (
+      length-set (c .loop-i .road) (c .loop-i .i) _ ∙ c .loop-i .inv .0,
+      goes-on _ _ (c .loop-i .i) (c .loop-i .road) _ _ _ _ (c .loop-i-test .taken) (omega (arith, c .loop-i .inv .0)) (rw e at (c .in-Continue-port .ensures tt)) (c .loop-i .inv .1),
+    )
 
 pub returns : need.returns
 returns c =

@@ -23,8 +23,9 @@ returns-then-on-road c =
     let size : length (take n (c .args .net .now .ports)) ≡ n = length-take-le n (c .args .net .now .ports) (omega arith) in
     port-barred _ _ _ _ _ (c .in-Some .ensures tt .value) (omega arith)
     (elim (c .then-on-road .came) [
-       then-on-road·by·then-on-road w ↦ and-left _ _ (not-from-true _ (sym (w .if-on-road .ensures tt)))
-     | then-on-road·by·else-on-road·then-not-follows w ↦ and-right _ _ (sym (w .if-not-follows .ensures tt)) ])
+      | then-on-road·by·then-on-road w ↦ and-left _ _ (not-from-true _ (sym (w .if-on-road .ensures tt)))
+      | then-on-road·by·else-on-road·then-not-follows w ↦ and-right _ _ (sym (w .if-not-follows .ensures tt))
+    ])
 
 pub returns : need.returns
 returns c =

@@ -13,9 +13,10 @@ returns-in-Break-ticks c =
     (reads-fault _ _ (ranged 4 0 1048576) _ _ _ _ _ (c .loop-i-test .taken) (c .in-Break-ticks .ensures tt .value) (c .loop-i .inv .1))
 
 pub loop-i-again : need.loop-i-again
-loop-i-again c =
-    (length-set (c .loop-i .memory) (c .loop-i .i) _ ∙ c .loop-i .inv .0,
-     reads-on _ (c .loop-i .i) (ranged 4 0 1048576) (c .loop-i .memory) _ _ _ _ (c .loop-i-test .taken) (omega (arith, c .loop-i .inv .0)) (c .in-Continue-ticks .ensures tt .value) (c .loop-i .inv .1))
+loop-i-again c = (
+  length-set (c .loop-i .memory) (c .loop-i .i) _ ∙ c .loop-i .inv .0,
+  reads-on _ (c .loop-i .i) (ranged 4 0 1048576) (c .loop-i .memory) _ _ _ _ (c .loop-i-test .taken) (omega (arith, c .loop-i .inv .0)) (c .in-Continue-ticks .ensures tt .value) (c .loop-i .inv .1),
+)
 
 pub returns : need.returns
 returns c =

@@ -56,8 +56,14 @@ ghost-result c =
     let memory = c .in-Continue-memory .memory in
     let net = netModel ports (c .in-Continue-count .count) memory (c .in-Continue-switches .switches) in
     let is : netFrom (c .args .least) (cursor (now (c .args .reader))) ≡ read net (cursor (c .read-memories .last .reader)) =
-      rw (← (c .in-Continue-kind .ensures tt .value), ← (c .in-Continue-count .ensures tt .value), ← (c .in-Continue-ports .ensures tt), ← needs,
-          ← (c .in-Continue-switches .ensures tt .value), ← (c .in-Continue-memory .ensures tt)) refl in
+    rw (
+      ← (c .in-Continue-kind .ensures tt .value),
+      ← (c .in-Continue-count .ensures tt .value),
+      ← (c .in-Continue-ports .ensures tt),
+      ← needs,
+      ← (c .in-Continue-switches .ensures tt .value),
+      ← (c .in-Continue-memory .ensures tt),
+    ) refl in
     let sound = net-sound (c .args .least) net (cursor (now (c .args .reader))) (cursor (c .read-memories .last .reader)) is in
     let ports-size = several-all (λ _. Unit {0}) portFrom (λ v d e is. tt) _ _ _ _ (sym (c .in-Continue-ports .ensures tt)) .0 in
     let memory-size = several-all (λ _. Unit {0}) (ranged 4 0 1048576) (λ v d e is. tt) _ _ _ _ (sym (c .in-Continue-memory .ensures tt)) .0 in
@@ -68,5 +74,11 @@ unfolding netFrom
 returns c =
     let whole : c .in-Continue-count .count - 0 ≡ c .in-Continue-count .count = omega arith in
     let needs = rw whole at (c .switches-needed-needed .ensures) in
-    rw (← (c .in-Continue-kind .ensures tt .value), ← (c .in-Continue-count .ensures tt .value), ← (c .in-Continue-ports .ensures tt), ← needs,
-        ← (c .in-Continue-switches .ensures tt .value), ← (c .in-Continue-memory .ensures tt)) refl
+    rw (
+      ← (c .in-Continue-kind .ensures tt .value),
+      ← (c .in-Continue-count .ensures tt .value),
+      ← (c .in-Continue-ports .ensures tt),
+      ← needs,
+      ← (c .in-Continue-switches .ensures tt .value),
+      ← (c .in-Continue-memory .ensures tt),
+    ) refl

@@ -13,9 +13,10 @@ returns-in-Break-port c =
     (reads-fault _ _ portFrom _ _ _ _ _ (c .loop-i-test .taken) (c .in-Break-port .ensures tt) (c .loop-i .inv .1))
 
 pub loop-i-again : need.loop-i-again
-loop-i-again c =
-    (length-set (c .loop-i .ports) (c .loop-i .i) _ ∙ c .loop-i .inv .0,
-     reads-on _ (c .loop-i .i) portFrom (c .loop-i .ports) _ _ _ _ (c .loop-i-test .taken) (omega (arith, c .loop-i .inv .0)) (c .in-Continue-port .ensures tt) (c .loop-i .inv .1))
+loop-i-again c = (
+  length-set (c .loop-i .ports) (c .loop-i .i) _ ∙ c .loop-i .inv .0,
+  reads-on _ (c .loop-i .i) portFrom (c .loop-i .ports) _ _ _ _ (c .loop-i-test .taken) (omega (arith, c .loop-i .inv .0)) (c .in-Continue-port .ensures tt) (c .loop-i .inv .1),
+)
 
 pub returns : need.returns
 returns c =

@@ -22,7 +22,8 @@ returns-in-Break-packet c =
     let p = err-from-errBy (c .from-residual .result) (c .from-residual .ensures .1) in
     record {
       value = rw (p .1, p .2, ← (c .new-reader .ensures), ← (c .in-Break-packet .ensures tt)) refl;
-      format = arrival-format _ (ports-few (c .args .net .now)) }
+      format = arrival-format _ (ports-few (c .args .net .now));
+    }
 
 pub returns-in-Break-port : need.returns-in-Break-port
 unfolding arrivalFrom
@@ -30,11 +31,13 @@ returns-in-Break-port c =
     let p = err-from-errBy (c .from-residual-in-Break-port .result) (c .from-residual-in-Break-port .ensures .1) in
     record {
       value = rw (p .1, p .2, ← (c .new-reader .ensures), ← (c .in-Continue-packet .ensures tt), ← (c .in-Break-port .ensures tt)) refl;
-      format = arrival-format _ (ports-few (c .args .net .now)) }
+      format = arrival-format _ (ports-few (c .args .net .now));
+    }
 
 pub returns : need.returns
 unfolding arrivalFrom
 returns c =
     record {
       value = rw (c .close .ensures, ← (c .new-reader .ensures), ← (c .in-Continue-packet .ensures tt), ← (c .in-Continue-port .ensures tt)) refl;
-      format = arrival-format _ (ports-few (c .args .net .now)) }
+      format = arrival-format _ (ports-few (c .args .net .now));
+    }

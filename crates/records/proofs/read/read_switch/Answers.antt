@@ -10,18 +10,21 @@ returns-in-Break-kind c =
     let p = err-from-errBy (c .from-residual .result) (c .from-residual .ensures .1) in
     record {
       value = rw (p .1, p .2, ← (c .new-reader .ensures), ← (c .in-Break-kind .ensures tt .value)) refl;
-      format = switch-format }
+      format = switch-format;
+    }
 
 pub returns-in-rest : need.returns-in-rest
 unfolding switchFrom
 returns-in-rest c =
     record {
       value = rw (c .missing .ensures, ← (c .new-reader .ensures), ← (c .in-Continue-kind .ensures tt .value), ← (c .in-rest .ensures tt .value)) refl;
-      format = switch-format }
+      format = switch-format;
+    }
 
 pub returns : need.returns
 unfolding switchFrom
 returns c =
     record {
       value = rw (c .close .ensures, ← (c .new-reader .ensures), ← (c .in-Continue-kind .ensures tt .value), ← (c .in-Some .ensures tt .value)) refl;
-      format = switch-format }
+      format = switch-format;
+    }

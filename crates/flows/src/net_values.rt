@@ -1,0 +1,60 @@
+// What is asked of a net.
+ghost use mathlib.Core.Path.{_≡_};
+ghost use Prim.Native.Nat.{_≤_};
+ghost use lib.ListN.{length};
+ghost use Rattle.flows.specs.Net.{portAt, noNet, together};
+ghost use Rattle.flows.specs.Models.{netOf};
+use super::net::Net;
+use super::port::Port;
+
+impl Net {
+    // No ports and no switches.
+    pub fn none() -> Self
+        ensures { λ r. ⌜ netOf r ≡ noNet ⌝ }
+    {
+        let port = Port {
+            switch: 0,
+            ends: 0,
+            wire: 0,
+        };
+        Net {
+            ports: [port; 64],
+            count: 0,
+            memory: [0; 255],
+            switches: 0,
+        }
+    }
+
+    // The port of this number; one of zeros where there is none.
+    pub fn port(&self, number: u8) -> Port
+        ensures { λ r. ⌜ r ≡ portAt (netOf (now (self .entry))) number ⌝ }
+    {
+        if number < self.count {
+            return self.ports[number as usize];
+        }
+        Port {
+            switch: 0,
+            ends: 0,
+            wire: 0,
+        }
+    }
+
+    // The memories of all switches together, in ticks.
+    pub fn memory_together(&self) -> u64
+        ensures { λ r. ⌜ r ≡ together (netOf (now (self .entry)) .memories) ⌝ }
+    {
+        let switches = self.switches as usize;
+        sum(&self.memory[0..switches])
+    }
+}
+
+fn sum(memories: &[u32]) -> u64
+    requires { ⌜ length (now memories) ≤ 255 ⌝ }
+    ensures { λ r. ⌜ r ≡ together (now (memories .entry)) ⌝ }
+{
+    let mut ticks: u64 = 0;
+    for memory in memories {
+        ticks += *memory as u64;
+    }
+    ticks
+}

@@ -1,0 +1,54 @@
+// The lines as they are printed.
+ghost use Rattle.std.specs.declared.option.Option.the-variants.{Some};
+ghost use Rattle.script.specs.Lines.{nameText, causeText, lineText};
+use super::line::Cause;
+use super::line::Line;
+use super::line::Name;
+use bytes::fault::Fault;
+use std::fmt;
+
+pub impl fmt::Display for Name as NameDisplay {
+    ghost shown = { λ x. Some (nameText x) };
+
+    fn fmt<W: fmt::Write>(&self, f: &mut fmt::Formatter<W>) -> fmt::Result {
+        match self {
+            Name::Flow { number } => write!(f, "flow {number}"),
+            Name::Net => write!(f, "net"),
+            Name::Record { number } => write!(f, "record {number}"),
+        }
+    }
+}
+
+pub impl fmt::Display for Cause as CauseDisplay {
+    ghost shown = { λ x. Some (causeText x) };
+
+    fn fmt<W: fmt::Write>(&self, f: &mut fmt::Formatter<W>) -> fmt::Result {
+        match self {
+            Cause::Fault {
+                fault: Fault::Length { at },
+            } => write!(f, "1: byte {at}"),
+            Cause::Fault {
+                fault: Fault::Range { at },
+            } => write!(f, "2: byte {at}"),
+            Cause::Fault {
+                fault: Fault::Road { at },
+            } => write!(f, "3: byte {at}"),
+            Cause::Packet { flow } => write!(f, "8: flow {flow}"),
+            Cause::Clock => write!(f, "10"),
+            Cause::Memories => write!(f, "11"),
+        }
+    }
+}
+
+pub impl fmt::Display for Line as LineDisplay {
+    ghost shown = { λ x. Some (lineText x) };
+
+    fn fmt<W: fmt::Write>(&self, f: &mut fmt::Formatter<W>) -> fmt::Result {
+        match self {
+            Line::Silent => Ok(()),
+            Line::Net { ports, switches } => write!(f, "net: {ports} ports, {switches} switches"),
+            Line::Flow { number } => write!(f, "flow {number}: read"),
+            Line::Refused { name, cause } => write!(f, "{name}: refused {cause}"),
+        }
+    }
+}

@@ -1,0 +1,135 @@
+// What becomes of a record that was read.
+ghost use mathlib.Core.Path.{_≡_};
+ghost use Rattle.std.specs.Options.{mapped};
+ghost use Rattle.flows.specs.Models.{netOf, flowOf};
+ghost use Rattle.script.specs.Models.{standing};
+ghost use Rattle.script.specs.Session.{beginning, leastSwitches, nameOf, refuse, flowNumbered, takeSwitch, takeNet, takeTicks};
+use super::line::Cause;
+use super::line::Line;
+use super::line::Name;
+use super::session::Session;
+use flows::flow::Flow;
+use flows::net::Net;
+use records::record::Switch;
+use records::record::Ticks;
+use records::stage::Program;
+use records::stage::Stage;
+use std::alloc::Global;
+
+pub const LAST_TICK: u64 = 1_099_511_627_776;
+
+impl Session {
+    pub fn new(heap: Global, program: Program) -> Session
+        ensures { λ r. ⌜ standing r ≡ beginning program ⌝ }
+    {
+        let stage = match program {
+            Program::Admit => Stage::NoNet,
+            Program::Ports => Stage::NoSwitch,
+            Program::Evening => Stage::NoNet,
+        };
+        Session {
+            program,
+            stage,
+            switch: 0,
+            net: Net::none(),
+            flows: Vec::new(heap),
+            clock: 0,
+            records: 0,
+            numbered: 0,
+            no_flow: 0,
+            others: 0,
+        }
+    }
+
+    // How many switches a net must have: so many that the program's own is there.
+    pub fn least_switches(&self) -> u16
+        ensures { λ r. ⌜ r ≡ leastSwitches (now (self .entry) .program) (now (self .entry) .switch) ⌝ }
+    {
+        match self.program {
+            Program::Admit => 0,
+            Program::Ports => self.switch as u16 + 1,
+            Program::Evening => 0,
+        }
+    }
+
+    // What a refused record is called.
+    pub fn name(&self, bytes: &[u8]) -> Name
+        ensures { λ r. ⌜ r ≡ nameOf (now (self .entry) .records) (now (self .entry) .numbered) (now (bytes .entry)) ⌝ }
+    {
+        if bytes.len() == 0 {
+            return Name::Record {
+                number: self.records,
+            };
+        }
+        match bytes[0] {
+            1 => Name::Flow {
+                number: self.numbered,
+            },
+            2 => Name::Net,
+            _ => Name::Record {
+                number: self.records,
+            },
+        }
+    }
+
+    pub fn refuse(&mut self, name: Name, cause: Cause) -> Line
+        ensures { λ r. ⌜ (r, standing (now (self .exit))) ≡ refuse (standing (now (self .entry))) name cause ⌝ }
+    {
+        self.others = self.others.saturating_add(1);
+        Line::Refused { name, cause }
+    }
+
+    // The flow of this number, if one was read.
+    pub fn flow(&self, number: u16) -> Option<Flow>
+        ensures { λ r. ⌜ mapped flowOf r ≡ flowNumbered (standing (now (self .entry)) .flows) number ⌝ }
+    {
+        let at = number as usize;
+        if at < self.flows.len() {
+            return self.flows[at];
+        }
+        None
+    }
+
+    pub fn take_switch(&mut self, switch: Switch) -> Line
+        ensures { λ r. ⌜ (r, standing (now (self .exit))) ≡ takeSwitch (standing (now (self .entry))) (switch .number) ⌝ }
+    {
+        self.switch = switch.number;
+        self.stage = Stage::NoNet;
+        Line::Silent
+    }
+
+    pub fn take_net(&mut self, net: Net) -> Line
+        ensures { λ r. ⌜ (r, standing (now (self .exit))) ≡ takeNet (standing (now (self .entry))) (netOf net) ⌝ }
+    {
+        let together = net.memory_together();
+        let too_much = match self.program {
+            Program::Admit => false,
+            Program::Ports => false,
+            Program::Evening => together > 4_194_304,
+        };
+        if too_much {
+            return self.refuse(Name::Net, Cause::Memories);
+        }
+        self.net = net;
+        self.stage = Stage::Still;
+        Line::Net {
+            ports: net.count,
+            switches: net.switches,
+        }
+    }
+
+    pub fn take_ticks(&mut self, ticks: Ticks) -> Line
+        ensures { λ r. ⌜ (r, standing (now (self .exit))) ≡ takeTicks (standing (now (self .entry))) (ticks .count) ⌝ }
+    {
+        let clock = self.clock + ticks.count as u64;
+        if clock > LAST_TICK {
+            let number = self.records;
+            return self.refuse(Name::Record { number }, Cause::Clock);
+        }
+        self.clock = clock;
+        if ticks.count != 0 {
+            self.stage = Stage::Running;
+        }
+        Line::Silent
+    }
+}
