@@ -105,3 +105,48 @@ only-row (suc n) bs es (cutLength b) long =
 pub one-row : OneRow
 one-row bs bytes =
     (is-row (length bs) bs (omega arith) bytes, λ es is. only-row (length bs) bs es is (omega arith))
+
+-- what is left behind a record is shorter
+pub next-shorter : (bs rest : List ℕ) (e : Extent) → nextRecord bs ≡ found e rest → length rest < length bs
+next-shorter [] rest e is = let z : _≡_ {A = ℕ} 0 1 = cc in absurd (omega arith)
+next-shorter (a ∷ []) rest e is = let none : [] ≡ rest = cc in rw (← none) (omega arith)
+next-shorter (a ∷ b ∷ bs) rest e is = sized (leb (value (a ∷ b ∷ [])) (length bs)) is
+  where
+    sized : (t : Bool) → cond t (found (wholeRecord (take (value (a ∷ b ∷ [])) bs)) (drop (value (a ∷ b ∷ [])) bs)) (found (cutRecord bs) []) ≡ found e rest →
+      length rest < length (a ∷ b ∷ bs)
+    sized true got = let left : drop (value (a ∷ b ∷ [])) bs ≡ rest = cc in rw (← left, length-drop (value (a ∷ b ∷ [])) bs) (omega arith)
+    sized false got = let none : [] ≡ rest = cc in rw (← none) (omega arith)
+
+row-finished : (n : ℕ) (bs : List ℕ) → nextRecord bs ≡ finished → rowWithin n bs ≡ []
+unfolding rowWithin
+row-finished zero bs is = refl
+row-finished (suc n) bs is = rw (is, rowWithin) refl
+
+-- the records of an input do not depend on how many are allowed for
+row-enough : (n m : ℕ) (bs : List ℕ) → length bs ≤ n → length bs ≤ m → rowWithin n bs ≡ rowWithin m bs
+unfolding rowWithin
+row-enough zero m [] long also = sym (row-of-nothing m)
+row-enough zero m (b ∷ bs) long also = absurd (omega arith)
+row-enough (suc n) zero [] long also = row-of-nothing (suc n)
+row-enough (suc n) zero (b ∷ bs) long also = absurd (omega arith)
+row-enough (suc n) (suc m) bs long also = onward (nextRecord bs) refl (row-enough n m)
+  where
+    onward : (x : Next) → nextRecord bs ≡ x → ((rest : List ℕ) → length rest ≤ n → length rest ≤ m → rowWithin n rest ≡ rowWithin m rest) →
+      rowWithin (suc n) bs ≡ rowWithin (suc m) bs
+    onward finished is tails = row-finished (suc n) bs is ∙ sym (row-finished (suc m) bs is)
+    onward (found e rest) is tails =
+        let shorter = next-shorter bs rest e is in
+        row-found n bs rest e is ∙ ap (λ es. e ∷ es) (tails rest (omega arith) (omega arith)) ∙ sym (row-found m bs rest e is)
+
+-- the records of an input are its next one, and then those of what is left
+pub row-next : (bs rest : List ℕ) (e : Extent) → found e rest ≡ nextRecord bs → row bs ≡ e ∷ row rest
+row-next bs rest e is = counted (length bs) refl
+  where
+    counted : (n : ℕ) → length bs ≡ n → rowWithin n bs ≡ e ∷ row rest
+    counted zero size = let shorter = next-shorter bs rest e (sym is) in absurd (omega arith)
+    counted (suc n) size =
+        let shorter = next-shorter bs rest e (sym is) in
+        row-found n bs rest e (sym is) ∙ ap (λ es. e ∷ es) (row-enough n (length rest) rest (omega arith) (omega arith))
+
+pub row-end : (bs : List ℕ) → finished ≡ nextRecord bs → row bs ≡ []
+row-end bs is = row-finished (length bs) bs (sym is)

@@ -32,3 +32,6 @@ lineText lines.Silent = []
 lineText (lines.Net ports switches) = codes "net: " ++ (decimal ports ++ (codes " ports, " ++ (decimal switches ++ codes " switches")))
 lineText (lines.Flow number) = codes "flow " ++ (decimal number ++ codes ": read")
 lineText (lines.Refused name cause) = nameText name ++ (codes ": refused " ++ causeText cause)
+lineText (lines.Clock tick) = codes "clock " ++ decimal tick
+lineText (lines.Counts noFlow others) =
+    codes "refused: " ++ (decimal noFlow ++ (codes " packets of no flow, " ++ (decimal others ++ codes " other records")))

@@ -292,3 +292,8 @@ step s e =
     let v = readAs s e in
     let done = becomes (noted s (e .bytes) (flowRead v)) (e .bytes) v in
     (done .0, counted (e .bytes) (done .1))
+
+-- where the program stands after a row of records
+unfoldable pub afterAll : Standing → List Extent → Standing
+afterAll s [] = s
+afterAll s (e ∷ es) = afterAll (step s e .1) es

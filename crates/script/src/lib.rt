@@ -1,5 +1,7 @@
 // A program's input, record by record: what becomes of each, and the lines that say so.
+pub mod input;
 pub mod line;
+pub mod run;
 pub mod session;
 pub mod show;
 pub mod steps;

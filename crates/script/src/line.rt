@@ -28,4 +28,6 @@ pub enum Line {
     Net { ports: u8, switches: u8 },
     Flow { number: u64 },
     Refused { name: Name, cause: Cause },
+    Clock { tick: u64 },
+    Counts { no_flow: u64, others: u64 },
 }

@@ -49,6 +49,10 @@ pub impl fmt::Display for Line as LineDisplay {
             Line::Net { ports, switches } => write!(f, "net: {ports} ports, {switches} switches"),
             Line::Flow { number } => write!(f, "flow {number}: read"),
             Line::Refused { name, cause } => write!(f, "{name}: refused {cause}"),
+            Line::Clock { tick } => write!(f, "clock {tick}"),
+            Line::Counts { no_flow, others } => {
+                write!(f, "refused: {no_flow} packets of no flow, {others} other records")
+            }
         }
     }
 }

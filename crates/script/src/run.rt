@@ -1,0 +1,20 @@
+// A program as it is run: standard input whole, lines to standard output.
+use super::input::print_closing;
+use super::input::read_input;
+use super::session::Session;
+use records::stage::Program;
+use std::error::AnyError;
+use std::io::BufWriter;
+use std::io::Read;
+use std::io::Write;
+
+pub fn run(rt: &LibcRuntime, program: Program) -> Result<(), AnyError> {
+    let mut input = Vec::new(rt.alloc());
+    rt.stdin().read_to_end(&mut input)?;
+    let mut session = Session::new(rt.alloc(), program);
+    let mut out = BufWriter::new(rt.stdout());
+    read_input(&mut session, input.as_slice(), &mut out)?;
+    print_closing(&session, &mut out)?;
+    out.flush()?;
+    Ok(())
+}
