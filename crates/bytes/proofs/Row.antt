@@ -113,7 +113,7 @@ next-shorter (a ∷ []) rest e is = let none : [] ≡ rest = cc in rw (← none)
 next-shorter (a ∷ b ∷ bs) rest e is = sized (leb (value (a ∷ b ∷ [])) (length bs)) is
   where
     sized : (t : Bool) → cond t (found (wholeRecord (take (value (a ∷ b ∷ [])) bs)) (drop (value (a ∷ b ∷ [])) bs)) (found (cutRecord bs) []) ≡ found e rest →
-      length rest < length (a ∷ b ∷ bs)
+        length rest < length (a ∷ b ∷ bs)
     sized true got = let left : drop (value (a ∷ b ∷ [])) bs ≡ rest = cc in rw (← left, length-drop (value (a ∷ b ∷ [])) bs) (omega arith)
     sized false got = let none : [] ≡ rest = cc in rw (← none) (omega arith)
 
@@ -132,7 +132,7 @@ row-enough (suc n) zero (b ∷ bs) long also = absurd (omega arith)
 row-enough (suc n) (suc m) bs long also = onward (nextRecord bs) refl (row-enough n m)
   where
     onward : (x : Next) → nextRecord bs ≡ x → ((rest : List ℕ) → length rest ≤ n → length rest ≤ m → rowWithin n rest ≡ rowWithin m rest) →
-      rowWithin (suc n) bs ≡ rowWithin (suc m) bs
+        rowWithin (suc n) bs ≡ rowWithin (suc m) bs
     onward finished is tails = row-finished (suc n) bs is ∙ sym (row-finished (suc m) bs is)
     onward (found e rest) is tails =
         let shorter = next-shorter bs rest e is in

@@ -8,7 +8,7 @@ use Rattle.script.specs.declared.line.Line.{Line}
 use Rattle.script.specs.Session.{Standing, Done, step, afterAll}
 
 pub all-next : (s : Standing) (done : Done) (bs rest : List ℕ) (e : Extent) (whole : Standing) → found e rest ≡ nextRecord bs →
-  done ≡ step s e → afterAll s (row bs) ≡ whole → afterAll (done .1) (row rest) ≡ whole
+    done ≡ step s e → afterAll s (row bs) ≡ whole → afterAll (done .1) (row rest) ≡ whole
 unfolding afterAll
 all-next s done bs rest e whole is stepped all =
     let head : afterAll s (row bs) ≡ afterAll (step s e .1) (row rest) = ap (afterAll s) (row-next bs rest e is) in

@@ -80,6 +80,12 @@ leastSwitches programs.Admit switch = 0
 leastSwitches programs.Ports switch = switch + 1
 leastSwitches programs.Evening switch = 0
 
+-- `admit` only plans; the others play
+abbrev pub plays : Program → Bool
+plays programs.Admit = false
+plays programs.Ports = true
+plays programs.Evening = true
+
 -- a record that begins with 1 takes the next flow number, whatever becomes of it
 abbrev pub takesNumber : List ℕ → Bool
 takesNumber [] = false
@@ -286,14 +292,21 @@ counted bs s = withCounts s (oneMore (s .records)) (cond (takesNumber bs) (oneMo
 abbrev pub readAs : Standing → Extent → Verdict RecordModel
 readAs s e = recordHere (s .program) (s .stage) (s .net) (leastSwitches (s .program) (s .switch)) (e .whole) (e .bytes)
 
--- one record: what is said of it, and where the program stands then
+-- one record, by what it is read as: what is said of it, and where the program stands then
+abbrev pub stepAs : Standing → List ℕ → Verdict RecordModel → Done
+stepAs s bs v =
+    let done = becomes (noted s bs (flowRead v)) bs v in
+    (done .0, counted bs (done .1))
+
 abbrev pub step : Standing → Extent → Done
-step s e =
-    let v = readAs s e in
-    let done = becomes (noted s (e .bytes) (flowRead v)) (e .bytes) v in
-    (done .0, counted (e .bytes) (done .1))
+step s e = stepAs s (e .bytes) (readAs s e)
 
 -- where the program stands after a row of records
 unfoldable pub afterAll : Standing → List Extent → Standing
 afterAll s [] = s
 afterAll s (e ∷ es) = afterAll (step s e .1) es
+
+-- what a program says at the end, if it plays
+abbrev pub closing : Standing → List Line
+closing s =
+    cond (plays (s .program)) (lines.Clock (s .clock) ∷ lines.Counts (s .noFlow) (s .others) ∷ []) (lines.Silent ∷ lines.Silent ∷ [])

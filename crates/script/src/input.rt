@@ -3,7 +3,7 @@ ghost use mathlib.Core.Path.{_≡_};
 ghost use Rattle.std.specs.Vec.{made};
 ghost use Rattle.bytes.specs.Row.{row};
 ghost use Rattle.script.specs.Models.{standing};
-ghost use Rattle.script.specs.Session.{afterAll};
+ghost use Rattle.script.specs.Session.{afterAll, closing};
 use super::line::Line;
 use super::session::Session;
 use super::show::LineDisplay;
@@ -33,26 +33,27 @@ fn print_line<W: Write>(line: Line, out: &mut W) -> io::Result<()> {
 }
 
 impl Session {
-    // The clock, as it is said at the end.
-    pub fn clock_line(&self) -> Line
-        ensures { λ r. ⌜ r ≡ Line.Clock (now (self .entry) .clock) ⌝ }
+    // What is said at the end, if the program plays.
+    pub fn closing(&self) -> [Line; 2]
+        ensures { λ r. ⌜ r ≡ closing (standing (now (self .entry))) ⌝ }
     {
-        Line::Clock { tick: self.clock }
-    }
-
-    // What was refused, as it is said at the end.
-    pub fn counts_line(&self) -> Line
-        ensures { λ r. ⌜ r ≡ Line.Counts (now (self .entry) .«no_flow») (now (self .entry) .others) ⌝ }
-    {
-        Line::Counts { no_flow: self.no_flow, others: self.others }
+        if let Program::Admit = self.program {
+            return [Line::Silent, Line::Silent];
+        }
+        [
+            Line::Clock { tick: self.clock },
+            Line::Counts {
+                no_flow: self.no_flow,
+                others: self.others,
+            },
+        ]
     }
 }
 
-// What a program that plays says at its end.
+// Prints what is said at the end.
 pub fn print_closing<W: Write>(session: &Session, out: &mut W) -> io::Result<()> {
-    if let Program::Admit = session.program {
-        return Ok(());
+    for line in session.closing() {
+        print_line(line, out)?;
     }
-    print_line(session.clock_line(), out)?;
-    print_line(session.counts_line(), out)
+    Ok(())
 }

@@ -51,7 +51,10 @@ pub impl fmt::Display for Line as LineDisplay {
             Line::Refused { name, cause } => write!(f, "{name}: refused {cause}"),
             Line::Clock { tick } => write!(f, "clock {tick}"),
             Line::Counts { no_flow, others } => {
-                write!(f, "refused: {no_flow} packets of no flow, {others} other records")
+                write!(
+                    f,
+                    "refused: {no_flow} packets of no flow, {others} other records"
+                )
             }
         }
     }

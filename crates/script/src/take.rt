@@ -8,6 +8,7 @@ ghost use Rattle.flows.specs.Models.{netOf, flowOf};
 ghost use Rattle.records.specs.Records.{recordOf};
 ghost use Rattle.bytes.specs.Answers.{extent, verdict};
 ghost use Rattle.script.specs.Models.{standing};
+ghost use Rattle.script.specs.SessionLaws.{RefusedOnlyCounts, CutIsRefused};
 ghost use Rattle.script.specs.Session.{lengthFits, portFits, packetFits, arrivalFits, flowNumbered, takePacket, takeRecord, becomes, flowIn, flowRead, keepsNumber, noted, counted, takesNumber, step};
 use super::line::Cause;
 use super::line::Line;
@@ -147,7 +148,9 @@ impl Session {
 
     // One record of the input, and what is said of it. Without memory nothing changes.
     pub fn take(&mut self, piece: Piece) -> Result<Line, AllocError>
-        ensures { λ r. ⌜ ByOk r (λ line. (line, standing (now (self .exit))) ≡ step (standing (now (self .entry))) (extent (piece .entry))) (λ _. standing (now (self .exit)) ≡ standing (now (self .entry))) ⌝ }
+        ensures refusals { λ _. ⌜ RefusedOnlyCounts ⌝ }
+        ensures cuts { λ _. ⌜ CutIsRefused ⌝ }
+        ensures value { λ r. ⌜ ByOk r (λ line. (line, standing (now (self .exit))) ≡ step (standing (now (self .entry))) (extent (piece .entry))) (λ _. standing (now (self .exit)) ≡ standing (now (self .entry))) ⌝ }
     {
         let least = self.least_switches();
         let read = read_record(self.program, self.stage, &self.net, least, piece);

@@ -1,0 +1,33 @@
+-- Laws of what becomes of records. Assumes nothing.
+use mathlib.Core.Path.{_≡_}
+use mathlib.Core.Bool.{false}
+use mathlib.Core.List.{[], _∷_, _++_}
+use mathlib.Core.Logic.{_⊎_}
+use Prim.Native.Nat.{ℕ}
+use Rattle.std.specs.declared.option.Option.the-variants.{None}
+use Rattle.bytes.specs.Row.{Extent}
+use Rattle.script.specs.declared.line.Name.{Name}
+use Rattle.script.specs.declared.line.Cause.{Cause}
+use Rattle.script.specs.declared.line.Cause.the-variants as causes
+use Rattle.script.specs.declared.line.Line.the-variants as lines
+use Rattle.script.specs.Session.{Standing, nameOf, faultAt, step}
+
+-- t differs from s in counts alone, and in that a flow number may be used up
+pub record OnlyCounts (s t : Standing) : Type 0 where
+  pub program : t .program ≡ s .program
+  pub stage : t .stage ≡ s .stage
+  pub switch : t .switch ≡ s .switch
+  pub net : t .net ≡ s .net
+  pub clock : t .clock ≡ s .clock
+  pub flows : (t .flows ≡ s .flows) ⊎ (t .flows ≡ s .flows ++ None ∷ [])
+
+-- what is refused changes nothing but counts
+abbrev pub RefusedOnlyCounts : Type 0
+RefusedOnlyCounts =
+    (s : Standing) (e : Extent) (name : Name) (cause : Cause) → step s e .0 ≡ lines.Refused name cause → OnlyCounts s (step s e .1)
+
+-- a record inside which the input ends is refused for a fault, whatever is there of it
+abbrev pub CutIsRefused : Type 0
+CutIsRefused =
+    (s : Standing) (e : Extent) → e .whole ≡ false →
+    (number place : ℕ) × (step s e .0 ≡ lines.Refused (nameOf (s .records) (s .numbered) (e .bytes)) (causes.Fault (faultAt number place)))
