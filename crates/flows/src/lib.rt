@@ -1,4 +1,4 @@
-// Flows and nets: what they are, and the bytes they are read from and written to.
+// Flows and nets: what they are, and the bytes they are read from.
 pub mod flow;
 pub mod net;
 pub mod net_values;
@@ -6,4 +6,3 @@ pub mod port;
 pub mod read_flow;
 pub mod read_net;
 pub mod road;
-pub mod write;

@@ -17,7 +17,7 @@ pub fn on_road(port: u8, road: &[u8]) -> bool
 }
 
 // Whether a port may follow a road: as its first, or on the switch where the wire of the last one ends.
-pub fn follows(net: &Net, road: &[u8], port: u8) -> bool
+pub(crate) fn follows(net: &Net, road: &[u8], port: u8) -> bool
     ensures { λ r. ⌜ r ≡ joins (netOf (now (net .entry))) (now (road .entry)) port ⌝ }
 {
     let Some(last) = road.last() else {

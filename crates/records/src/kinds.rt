@@ -55,7 +55,7 @@ fn kind_at(program: Program, stage: Stage, first: u8) -> Kind
     }
 }
 
-pub fn kind_of(program: Program, stage: Stage, bytes: &[u8]) -> Kind
+pub(crate) fn kind_of(program: Program, stage: Stage, bytes: &[u8]) -> Kind
     ensures { λ r. ⌜ r ≡ kindOf program stage (now (bytes .entry)) ⌝ }
 {
     if bytes.len() == 0 {

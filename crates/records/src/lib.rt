@@ -3,4 +3,3 @@ pub mod kinds;
 pub mod read;
 pub mod record;
 pub mod stage;
-pub mod write;

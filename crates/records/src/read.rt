@@ -49,7 +49,7 @@ fn read_port_number(reader: &mut Reader, net: &Net) -> Result<u8, Fault>
     Ok(port)
 }
 
-pub fn read_packet(piece: Piece) -> Result<Packet, Fault>
+fn read_packet(piece: Piece) -> Result<Packet, Fault>
     ensures value { λ r. ⌜ verdict (λ p. p) r ≡ packetRecord (piece .entry .whole) (now (piece .entry .bytes)) ⌝ }
     ensures format { λ _. ⌜ Format SoundPacket packetRecord packetBytes ⌝ }
 {
@@ -58,7 +58,7 @@ pub fn read_packet(piece: Piece) -> Result<Packet, Fault>
     reader.close(piece.whole, packet)
 }
 
-pub fn read_arrival(piece: Piece, net: &Net) -> Result<Arrival, Fault>
+fn read_arrival(piece: Piece, net: &Net) -> Result<Arrival, Fault>
     ensures value { λ r. ⌜ verdict (λ a. a) r ≡ arrivalRecord (length (netOf (now (net .entry)) .ports)) (piece .entry .whole) (now (piece .entry .bytes)) ⌝ }
     ensures format { λ _. ⌜ Format (SoundArrival (length (netOf (now (net .entry)) .ports))) (arrivalRecord (length (netOf (now (net .entry)) .ports))) arrivalBytes ⌝ }
 {
@@ -68,7 +68,7 @@ pub fn read_arrival(piece: Piece, net: &Net) -> Result<Arrival, Fault>
     reader.close(piece.whole, Arrival { packet, port })
 }
 
-pub fn read_ticks(piece: Piece) -> Result<Ticks, Fault>
+fn read_ticks(piece: Piece) -> Result<Ticks, Fault>
     ensures value { λ r. ⌜ verdict (λ t. t) r ≡ ticksRecord (piece .entry .whole) (now (piece .entry .bytes)) ⌝ }
     ensures format { λ _. ⌜ Format SoundTicks ticksRecord ticksBytes ⌝ }
 {
@@ -80,7 +80,7 @@ pub fn read_ticks(piece: Piece) -> Result<Ticks, Fault>
     reader.close(piece.whole, Ticks { count })
 }
 
-pub fn read_switch(piece: Piece) -> Result<Switch, Fault>
+fn read_switch(piece: Piece) -> Result<Switch, Fault>
     ensures value { λ r. ⌜ verdict (λ s. s) r ≡ switchRecord (piece .entry .whole) (now (piece .entry .bytes)) ⌝ }
     ensures format { λ _. ⌜ Format SoundSwitch switchRecord switchBytes ⌝ }
 {

@@ -16,7 +16,7 @@ use records::stage::Program;
 use records::stage::Stage;
 use std::alloc::Global;
 
-pub const LAST_TICK: u64 = 1_099_511_627_776;
+const LAST_TICK: u64 = 1_099_511_627_776;
 
 impl Session {
     pub fn new(heap: Global, program: Program) -> Session
@@ -42,7 +42,7 @@ impl Session {
     }
 
     // How many switches a net must have: so many that the program's own is there.
-    pub fn least_switches(&self) -> u16
+    pub(crate) fn least_switches(&self) -> u16
         ensures { λ r. ⌜ r ≡ leastSwitches (now (self .entry) .program) (now (self .entry) .switch) ⌝ }
     {
         match self.program {
@@ -53,7 +53,7 @@ impl Session {
     }
 
     // What a refused record is called.
-    pub fn name(&self, bytes: &[u8]) -> Name
+    pub(crate) fn name(&self, bytes: &[u8]) -> Name
         ensures { λ r. ⌜ r ≡ nameOf (now (self .entry) .records) (now (self .entry) .numbered) (now (bytes .entry)) ⌝ }
     {
         if bytes.len() == 0 {
@@ -72,7 +72,7 @@ impl Session {
         }
     }
 
-    pub fn refuse(&mut self, name: Name, cause: Cause) -> Line
+    pub(crate) fn refuse(&mut self, name: Name, cause: Cause) -> Line
         ensures { λ r. ⌜ (r, standing (now (self .exit))) ≡ refuse (standing (now (self .entry))) name cause ⌝ }
     {
         self.others = self.others.saturating_add(1);
@@ -80,7 +80,7 @@ impl Session {
     }
 
     // The flow of this number, if one was read.
-    pub fn flow(&self, number: u16) -> Option<Flow>
+    pub(crate) fn flow(&self, number: u16) -> Option<Flow>
         ensures { λ r. ⌜ mapped flowOf r ≡ flowNumbered (standing (now (self .entry)) .flows) number ⌝ }
     {
         let at = number as usize;
@@ -90,7 +90,7 @@ impl Session {
         None
     }
 
-    pub fn take_switch(&mut self, switch: Switch) -> Line
+    pub(crate) fn take_switch(&mut self, switch: Switch) -> Line
         ensures { λ r. ⌜ (r, standing (now (self .exit))) ≡ takeSwitch (standing (now (self .entry))) (switch .number) ⌝ }
     {
         self.switch = switch.number;
@@ -98,7 +98,7 @@ impl Session {
         Line::Silent
     }
 
-    pub fn take_net(&mut self, net: Net) -> Line
+    pub(crate) fn take_net(&mut self, net: Net) -> Line
         ensures { λ r. ⌜ (r, standing (now (self .exit))) ≡ takeNet (standing (now (self .entry))) (netOf net) ⌝ }
     {
         let together = net.memory_together();
@@ -118,7 +118,7 @@ impl Session {
         }
     }
 
-    pub fn take_ticks(&mut self, ticks: Ticks) -> Line
+    pub(crate) fn take_ticks(&mut self, ticks: Ticks) -> Line
         ensures { λ r. ⌜ (r, standing (now (self .exit))) ≡ takeTicks (standing (now (self .entry))) (ticks .count) ⌝ }
     {
         let clock = self.clock + ticks.count as u64;

@@ -43,7 +43,7 @@ fn port_fits(flow: &Flow, net: &Net, switch: u8, port: u8) -> bool
 
 impl Session {
     // A packet that fits its flow ends standstill; fits is None where there is no such flow.
-    pub fn take_fitting(&mut self, flow: u16, fits: Option<bool>) -> Line
+    fn take_fitting(&mut self, flow: u16, fits: Option<bool>) -> Line
         ensures { λ r. ⌜ (r, standing (now (self .exit))) ≡ takePacket (standing (now (self .entry))) flow fits ⌝ }
     {
         let number = self.records;

@@ -1,5 +1,0 @@
-use Rattle.bytes.proofs.Digits.{bytesOf-two}
-use Rattle.bytes.proofs.writes.put_short.Needs as need
-
-pub returns : need.returns
-returns c = rw (bytesOf-two (c .args .n)) (c .extend-from-slice .ensures .items)

@@ -1,0 +1,4 @@
+// Records to bytes: what the readers read back.
+pub mod numbers;
+pub mod plans;
+pub mod scripts;
