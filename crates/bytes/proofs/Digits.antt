@@ -2,9 +2,11 @@
 use mathlib.Core.Path.{_≡_, refl, sym, ap, _∙_}
 use mathlib.Core.List.{List, [], _∷_, _++_}
 use Prim.Native.Nat.{ℕ, zero, suc, _+_, _*_, _/_, _%_, _^_, _<_, _≤_}
-use native.Mathlib.Nat.{mod-lt, div-add-mod', mod-eq-of-lt, mul-add-mod-self-right, div-lt-iff-lt-mul, pow-zero, pow-succ', add-mul}
+use native.Mathlib.Nat.{mod-lt, div-add-mod', mod-eq-of-lt, mul-add-mod-self-right, div-lt-iff-lt-mul, pow-zero, pow-suc, pow-succ', add-mul, mul-assoc}
+use native.Mathlib.Numerals.{add-one}
 use native.Mathlib.Omega.{arith}
-use lib.ListN.{length, take, drop}
+use lib.ListN.{length, take, drop, getD}
+use Rattle.std.proofs.shelf.Lists.{length-push, take-more}
 use Rattle.std.specs.shelf.Lists.{All}
 use Rattle.std.proofs.shelf.Bits.{div-mul-add, mul-le}
 use Rattle.bytes.specs.Numbers.{value, bytesOf, IsByte}
@@ -66,3 +68,26 @@ bytesOf-four n =
     let third : n % 16777216 % 65536 / 256 ≡ n / 256 % 256 = omega arith in
     let last : n % 16777216 % 65536 % 256 / 1 ≡ n % 256 = omega arith in
     rw (second, third, last) refl
+
+-- a number grows by one byte at its end
+value-push : (bs : List ℕ) (b : ℕ) → value (bs ++ b ∷ []) ≡ value bs * 256 + b
+unfolding value
+value-push [] b = omega arith
+value-push (c ∷ bs) b =
+    rw (length-push bs b, add-one (length bs), pow-suc 256 (length bs), value-push bs b)
+    (let regroup : c * (256 ^ length bs * 256) ≡ c * 256 ^ length bs * 256 = sym (mul-assoc c (256 ^ length bs) 256) in
+    omega arith)
+
+pub value-more : (xs : List ℕ) (i n : ℕ) → i < length xs → n ≡ value (take i xs) → n * 256 + getD xs i 0 ≡ value (take (i + 1) xs)
+value-more xs i n h is = rw (take-more xs i 0 h, value-push (take i xs) (getD xs i 0), is) refl
+
+-- up to four bytes fit 32 bits
+pub digit-fits : (i n b : ℕ) → i < 4 → n < 256 ^ i → b < 256 → n * 256 + b < 4294967296
+digit-fits zero n b small below byte = omega arith
+digit-fits (suc zero) n b small below byte = omega arith
+digit-fits (suc (suc zero)) n b small below byte = omega arith
+digit-fits (suc (suc (suc zero))) n b small below byte = omega arith
+digit-fits (suc (suc (suc (suc i)))) n b small below byte = absurd (omega arith)
+
+pub digit-below : (i n b : ℕ) → n < 256 ^ i → b < 256 → n * 256 + b < 256 ^ (i + 1)
+digit-below i n b below byte = rw (add-one i, pow-suc 256 i) (omega arith)

@@ -21,26 +21,6 @@ pub missing : (k at : ℕ) (xs : List ℕ) → length xs < k → fault 1 (at + l
 unfolding number
 missing k at xs few = rw (lt-leb k (length xs) few)
 
-pub value-one : (xs : List ℕ) → 1 ≤ length xs → getD xs 0 0 ≡ value (take 1 xs)
-unfolding value
-value-one [] h = omega arith
-value-one (a ∷ xs) h = omega arith
-
-pub value-two : (xs : List ℕ) → 2 ≤ length xs → getD xs 0 0 * 256 + getD xs 1 0 ≡ value (take 2 xs)
-unfolding value
-value-two [] h = omega arith
-value-two (a ∷ []) h = omega arith
-value-two (a ∷ b ∷ xs) h = omega arith
-
-pub value-four : (xs : List ℕ) → 4 ≤ length xs →
-    getD xs 0 0 * 16777216 + getD xs 1 0 * 65536 + getD xs 2 0 * 256 + getD xs 3 0 ≡ value (take 4 xs)
-unfolding value
-value-four [] h = omega arith
-value-four (a ∷ []) h = omega arith
-value-four (a ∷ b ∷ []) h = omega arith
-value-four (a ∷ b ∷ c ∷ []) h = omega arith
-value-four (a ∷ b ∷ c ∷ d ∷ xs) h = omega arith
-
 module _ (k : ℕ) (good : ℕ → Bool) (code : ℕ) (c : Cursor) where
   pub tested-missing : (place : ℕ) → fault 1 place ≡ number k c → fault 1 place ≡ tested k good code c
   tested-missing place is = rw (← is) refl

@@ -9,6 +9,7 @@ use Rattle.bytes.specs.declared.fault.Fault.{Fault}
 use Rattle.bytes.specs.declared.fault.Fault.the-variants.{Length, Range, Road}
 use Rattle.bytes.specs.declared.reader.Reader.{Reader}
 use Rattle.bytes.specs.declared.piece.Piece.{Piece}
+use Rattle.bytes.specs.declared.piece.Split.{Split}
 use Rattle.bytes.specs.Row.{Extent, Next, finished, found}
 use Rattle.bytes.specs.Reading.{Cursor, Outcome, read, fault, Verdict, accepted, refused, endOf}
 
@@ -50,3 +51,7 @@ extent p = record { bytes = p .bytes .now; whole = p .whole }
 abbrev pub following : Option Piece → List ℕ → Next
 following None rest = finished
 following (Some p) rest = found (extent p) rest
+
+abbrev pub first : Option Split → Next
+first None = finished
+first (Some s) = found (extent (s .piece)) (s .rest .now)

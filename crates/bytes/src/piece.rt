@@ -4,3 +4,10 @@ pub struct Piece<'a> {
     pub bytes: &'a [u8],
     pub whole: bool,
 }
+
+// The first record of an input, and what is behind it.
+#[derive(Clone, Copy)]
+pub struct Split<'a> {
+    pub piece: Piece<'a>,
+    pub rest: &'a [u8],
+}

@@ -1,5 +1,5 @@
 ghost use mathlib.Core.Path.{_≡_};
-ghost use Prim.Native.Nat.{_≤_};
+ghost use Prim.Native.Nat.{_≤_, _<_, _^_};
 ghost use Rattle.bytes.specs.Reading.{start, endOf, read, closed};
 ghost use Rattle.bytes.specs.Numbers.{number, ranged, kindByte};
 ghost use Rattle.bytes.specs.Answers.{cursor, taken, part, verdict};
@@ -21,14 +21,8 @@ impl<'a> Reader<'a> {
         ensures value { λ r. ⌜ taken r (cursor (now (self .exit))) ≡ number 1 (cursor (now (self .entry))) ⌝ }
         ensures kept { λ r. ⌜ BySome r (cursor (now (self .exit)) ≡ cursor (now (self .entry))) (λ _. Unit {0}) ⌝ }
     {
-        let rest = self.rest;
-        if rest.len() < 1 {
-            return None;
-        }
-        let value = rest[0];
-        self.rest = &rest[1..];
-        self.at += 1;
-        Some(value)
+        let n = self.digits(1)?;
+        Some(n as u8)
     }
 
     // A number of two bytes, high byte first; None, and nothing taken, where one is missing.
@@ -36,14 +30,8 @@ impl<'a> Reader<'a> {
         ensures value { λ r. ⌜ taken r (cursor (now (self .exit))) ≡ number 2 (cursor (now (self .entry))) ⌝ }
         ensures kept { λ r. ⌜ BySome r (cursor (now (self .exit)) ≡ cursor (now (self .entry))) (λ _. Unit {0}) ⌝ }
     {
-        let rest = self.rest;
-        if rest.len() < 2 {
-            return None;
-        }
-        let value = rest[0] as u16 * 0x100 + rest[1] as u16;
-        self.rest = &rest[2..];
-        self.at += 2;
-        Some(value)
+        let n = self.digits(2)?;
+        Some(n as u16)
     }
 
     // A number of four bytes, high byte first; None, and nothing taken, where one is missing.
@@ -51,15 +39,8 @@ impl<'a> Reader<'a> {
         ensures value { λ r. ⌜ taken r (cursor (now (self .exit))) ≡ number 4 (cursor (now (self .entry))) ⌝ }
         ensures kept { λ r. ⌜ BySome r (cursor (now (self .exit)) ≡ cursor (now (self .entry))) (λ _. Unit {0}) ⌝ }
     {
-        let rest = self.rest;
-        if rest.len() < 4 {
-            return None;
-        }
-        let high = rest[0] as u32 * 0x100_0000 + rest[1] as u32 * 0x1_0000;
-        let value = high + rest[2] as u32 * 0x100 + rest[3] as u32;
-        self.rest = &rest[4..];
-        self.at += 4;
-        Some(value)
+        let n = self.digits(4)?;
+        Some(n)
     }
 
     // The fault of a byte that is missing.
@@ -77,16 +58,8 @@ impl<'a> Reader<'a> {
         ensures inside { λ r. ⌜ made r (λ n. (low ≤ n) × (n ≤ high)) ⌝ }
         ensures kept { λ r. ⌜ ByOk r (λ _. Unit {0}) (λ _. cursor (now (self .exit)) ≡ cursor (now (self .entry))) ⌝ }
     {
-        let mut ahead = *self;
-        let Some(value) = ahead.byte() else {
-            return Err(ahead.missing());
-        };
-        let number = value as u16;
-        if number < low || number > high {
-            return Err(Fault::Range { at: self.at });
-        }
-        *self = ahead;
-        Ok(value)
+        let n = self.digits_in(1, low as u32, high as u32)?;
+        Ok(n as u8)
     }
 
     // A number of two bytes from low to high; nothing is taken where it is refused.
@@ -95,15 +68,8 @@ impl<'a> Reader<'a> {
         ensures inside { λ r. ⌜ made r (λ n. (low ≤ n) × (n ≤ high)) ⌝ }
         ensures kept { λ r. ⌜ ByOk r (λ _. Unit {0}) (λ _. cursor (now (self .exit)) ≡ cursor (now (self .entry))) ⌝ }
     {
-        let mut ahead = *self;
-        let Some(value) = ahead.short() else {
-            return Err(ahead.missing());
-        };
-        if value < low || value > high {
-            return Err(Fault::Range { at: self.at });
-        }
-        *self = ahead;
-        Ok(value)
+        let n = self.digits_in(2, low as u32, high as u32)?;
+        Ok(n as u16)
     }
 
     // A number of four bytes from low to high; nothing is taken where it is refused.
@@ -112,27 +78,67 @@ impl<'a> Reader<'a> {
         ensures inside { λ r. ⌜ made r (λ n. (low ≤ n) × (n ≤ high)) ⌝ }
         ensures kept { λ r. ⌜ ByOk r (λ _. Unit {0}) (λ _. cursor (now (self .exit)) ≡ cursor (now (self .entry))) ⌝ }
     {
-        let mut ahead = *self;
-        let Some(value) = ahead.word() else {
-            return Err(ahead.missing());
-        };
-        if value < low || value > high {
-            return Err(Fault::Range { at: self.at });
-        }
-        *self = ahead;
-        Ok(value)
+        let n = self.digits_in(4, low, high)?;
+        Ok(n)
     }
 
     // The kind of the record.
-    pub fn kind(&mut self, kind: u8) -> Result<u8, Fault>
-        ensures value { λ r. ⌜ part (λ n. n) r (cursor (now (self .exit))) ≡ kindByte kind (cursor (now (self .entry))) ⌝ }
+    pub fn kind(&mut self, wanted: u8) -> Result<u8, Fault>
+        ensures value { λ r. ⌜ part (λ n. n) r (cursor (now (self .exit))) ≡ kindByte wanted (cursor (now (self .entry))) ⌝ }
+        ensures kept { λ r. ⌜ ByOk r (λ _. Unit {0}) (λ _. cursor (now (self .exit)) ≡ cursor (now (self .entry))) ⌝ }
+    {
+        self.kind_byte(wanted)
+    }
+
+    // A number of so many bytes, high byte first.
+    fn digits(&mut self, size: usize) -> Option<u32>
+        requires { ⌜ size ≤ 4 ⌝ }
+        ensures value { λ r. ⌜ taken r (cursor (now (self .exit))) ≡ number size (cursor (now (self .entry))) ⌝ }
+        ensures small { λ r. ⌜ BySome r (Unit {0}) (λ n. n < 256 ^ size) ⌝ }
+        ensures kept { λ r. ⌜ BySome r (cursor (now (self .exit)) ≡ cursor (now (self .entry))) (λ _. Unit {0}) ⌝ }
+    {
+        let rest = self.rest;
+        if rest.len() < size {
+            return None;
+        }
+        let mut n: u32 = 0;
+        for i in 0..size {
+            n = n * 0x100 + rest[i] as u32;
+        }
+        self.rest = &rest[size..];
+        self.at += size;
+        Some(n)
+    }
+
+    // A number of so many bytes from low to high.
+    fn digits_in(&mut self, size: usize, low: u32, high: u32) -> Result<u32, Fault>
+        requires { ⌜ size ≤ 4 ⌝ }
+        ensures value { λ r. ⌜ part (λ n. n) r (cursor (now (self .exit))) ≡ ranged size low high (cursor (now (self .entry))) ⌝ }
+        ensures small { λ r. ⌜ made r (λ n. n < 256 ^ size) ⌝ }
+        ensures inside { λ r. ⌜ made r (λ n. (low ≤ n) × (n ≤ high)) ⌝ }
+        ensures kept { λ r. ⌜ ByOk r (λ _. Unit {0}) (λ _. cursor (now (self .exit)) ≡ cursor (now (self .entry))) ⌝ }
+    {
+        let mut ahead = *self;
+        let Some(n) = ahead.digits(size) else {
+            return Err(ahead.missing());
+        };
+        if n < low || n > high {
+            return Err(Fault::Range { at: self.at });
+        }
+        *self = ahead;
+        Ok(n)
+    }
+
+    // The byte that says the kind, which must be the one that is wanted.
+    fn kind_byte(&mut self, wanted: u8) -> Result<u8, Fault>
+        ensures value { λ r. ⌜ part (λ n. n) r (cursor (now (self .exit))) ≡ kindByte wanted (cursor (now (self .entry))) ⌝ }
         ensures kept { λ r. ⌜ ByOk r (λ _. Unit {0}) (λ _. cursor (now (self .exit)) ≡ cursor (now (self .entry))) ⌝ }
     {
         let mut ahead = *self;
         let Some(value) = ahead.byte() else {
             return Err(ahead.missing());
         };
-        if value != kind {
+        if value != wanted {
             return Err(Fault::Length { at: self.at });
         }
         *self = ahead;

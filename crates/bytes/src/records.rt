@@ -1,9 +1,10 @@
 // The records of an input, one after the other.
 ghost use mathlib.Core.Path.{_≡_};
 ghost use Rattle.bytes.specs.Row.{nextRecord, OneRow};
-ghost use Rattle.bytes.specs.Answers.{following};
+ghost use Rattle.bytes.specs.Answers.{following, first};
 ghost use Rattle.std.specs.Options.{Cases as BySome};
 use super::piece::Piece;
+use super::piece::Split;
 
 #[derive(Clone, Copy)]
 pub struct Records<'a> {
@@ -12,8 +13,7 @@ pub struct Records<'a> {
 
 impl<'a> Records<'a> {
     pub fn new(input: &'a [u8]) -> Self
-        ensures rest { λ r. ⌜ now (r .rest) ≡ now (input .entry) ⌝ }
-        ensures one { λ _. ⌜ OneRow ⌝ }
+        ensures { λ r. ⌜ now (r .rest) ≡ now (input .entry) ⌝ }
     {
         Records { rest: input }
     }
@@ -23,31 +23,50 @@ impl<'a> Records<'a> {
         ensures value { λ r. ⌜ following r (now (now (self .exit) .rest)) ≡ nextRecord (now (now (self .entry) .rest)) ⌝ }
         ensures kept { λ r. ⌜ BySome r (now (now (self .exit) .rest) ≡ now (now (self .entry) .rest)) (λ _. Unit {0}) ⌝ }
     {
-        let rest = self.rest;
-        let len = rest.len();
-        if len < 1 {
+        let Some(split) = split_first(self.rest) else {
             return None;
-        }
-        if len < 2 {
-            self.rest = &rest[1..];
-            return Some(Piece {
-                bytes: &rest[1..],
-                whole: false,
-            });
-        }
-        let body = &rest[2..];
-        let size = rest[0] as usize * 0x100 + rest[1] as usize;
-        if body.len() < size {
-            self.rest = &body[body.len()..];
-            return Some(Piece {
-                bytes: body,
-                whole: false,
-            });
-        }
-        self.rest = &body[size..];
-        Some(Piece {
-            bytes: &body[0..size],
-            whole: true,
-        })
+        };
+        self.rest = split.rest;
+        Some(split.piece)
     }
+}
+
+// The first record of an input, if there is one. Going on so gives the one row of records that the input is.
+fn split_first<'a>(input: &'a [u8]) -> Option<Split<'a>>
+    ensures value { λ r. ⌜ first r ≡ nextRecord (now (input .entry)) ⌝ }
+    ensures one { λ _. ⌜ OneRow ⌝ }
+{
+    let len = input.len();
+    if len < 1 {
+        return None;
+    }
+    if len < 2 {
+        let none = &input[1..];
+        let piece = Piece {
+            bytes: none,
+            whole: false,
+        };
+        return Some(Split { piece, rest: none });
+    }
+    let body = &input[2..];
+    let size = input[0] as usize * 0x100 + input[1] as usize;
+    if body.len() < size {
+        let piece = Piece {
+            bytes: body,
+            whole: false,
+        };
+        let end = body.len();
+        return Some(Split {
+            piece,
+            rest: &body[end..],
+        });
+    }
+    let piece = Piece {
+        bytes: &body[0..size],
+        whole: true,
+    };
+    Some(Split {
+        piece,
+        rest: &body[size..],
+    })
 }

@@ -1,8 +1,8 @@
 // What is asked of a net.
 ghost use mathlib.Core.Path.{_≡_};
 ghost use Prim.Native.Nat.{_≤_};
-ghost use lib.ListN.{length};
-ghost use Rattle.flows.specs.Net.{portAt, noNet, together};
+ghost use lib.ListN.{length, getD};
+ghost use Rattle.flows.specs.Net.{portAt, noPort, noNet, together};
 ghost use Rattle.flows.specs.Models.{netOf};
 use super::net::Net;
 use super::port::Port;
@@ -29,14 +29,8 @@ impl Net {
     pub fn port(&self, number: u8) -> Port
         ensures { λ r. ⌜ r ≡ portAt (netOf (now (self .entry))) number ⌝ }
     {
-        if number < self.count {
-            return self.ports[number as usize];
-        }
-        Port {
-            switch: 0,
-            ends: 0,
-            wire: 0,
-        }
+        let count = self.count as usize;
+        port_in(&self.ports[0..count], number)
     }
 
     // The memories of all switches together, in ticks.
@@ -45,6 +39,21 @@ impl Net {
     {
         let switches = self.switches as usize;
         sum(&self.memory[0..switches])
+    }
+}
+
+// A port by its place in a table; one of zeros past its end.
+fn port_in(ports: &[Port], number: u8) -> Port
+    ensures { λ r. ⌜ r ≡ getD (now (ports .entry)) number noPort ⌝ }
+{
+    let at = number as usize;
+    if at < ports.len() {
+        return ports[at];
+    }
+    Port {
+        switch: 0,
+        ends: 0,
+        wire: 0,
     }
 }
 

@@ -5,6 +5,7 @@ ghost use Prim.Native.Nat.{_≤_};
 ghost use lib.ListN.{take};
 ghost use Rattle.bytes.specs.Answers.{cursor, part, verdict};
 ghost use Rattle.flows.specs.FlowFormat.{roadPort, roadFrom, flowFrom, flowRecord, flowBytes};
+ghost use Rattle.bytes.specs.Reading.{start};
 ghost use Rattle.bytes.specs.Format.{Format};
 ghost use Rattle.flows.specs.Flow.{SoundFlow};
 ghost use Rattle.flows.specs.Models.{netOf, flowOf};
@@ -69,12 +70,20 @@ fn read_parts(reader: &mut Reader, net: &Net) -> Result<Flow, Fault>
     })
 }
 
+// A reader before the record of a flow. The laws are those of the flow's format.
+fn before_flow<'a>(bytes: &'a [u8], net: &Net) -> Reader<'a>
+    ensures place { λ r. ⌜ cursor r ≡ start (now (bytes .entry)) ⌝ }
+    ensures format { λ _. ⌜ Format (SoundFlow (netOf (now (net .entry)))) (flowRecord (netOf (now (net .entry)))) flowBytes ⌝ }
+{
+    Reader::new(bytes)
+}
+
 // A flow of a net.
 pub fn read_flow(piece: Piece, net: &Net) -> Result<Flow, Fault>
     ensures value { λ r. ⌜ verdict flowOf r ≡ flowRecord (netOf (now (net .entry))) (piece .entry .whole) (now (piece .entry .bytes)) ⌝ }
     ensures format { λ _. ⌜ Format (SoundFlow (netOf (now (net .entry)))) (flowRecord (netOf (now (net .entry)))) flowBytes ⌝ }
 {
-    let mut reader = Reader::new(piece.bytes);
+    let mut reader = before_flow(piece.bytes, net);
     let flow = read_parts(&mut reader, net)?;
     reader.close(piece.whole, flow)
 }

@@ -3,7 +3,7 @@ ghost use mathlib.Core.Path.{_≡_};
 ghost use mathlib.Core.List.{[]};
 ghost use Prim.Native.Nat.{_≤_};
 ghost use lib.ListN.{take};
-ghost use Rattle.bytes.specs.Reading.{several};
+ghost use Rattle.bytes.specs.Reading.{several, start};
 ghost use Rattle.bytes.specs.Numbers.{ranged};
 ghost use Rattle.bytes.specs.Answers.{cursor, part, verdict};
 ghost use Rattle.bytes.specs.Format.{Format};
@@ -83,12 +83,20 @@ fn read_parts(reader: &mut Reader, least: u16) -> Result<Net, Fault>
     })
 }
 
+// A reader before the record of a net. The laws are those of the net's format.
+fn before_net<'a>(bytes: &'a [u8], least: u16) -> Reader<'a>
+    ensures place { λ r. ⌜ cursor r ≡ start (now (bytes .entry)) ⌝ }
+    ensures format { λ _. ⌜ Format (SoundAtLeast least) (netRecord least) netBytes ⌝ }
+{
+    Reader::new(bytes)
+}
+
 // A net of at least so many switches.
 pub fn read_net(piece: Piece, least: u16) -> Result<Net, Fault>
     ensures value { λ r. ⌜ verdict netOf r ≡ netRecord least (piece .entry .whole) (now (piece .entry .bytes)) ⌝ }
     ensures format { λ _. ⌜ Format (SoundAtLeast least) (netRecord least) netBytes ⌝ }
 {
-    let mut reader = Reader::new(piece.bytes);
+    let mut reader = before_net(piece.bytes, least);
     let net = read_parts(&mut reader, least)?;
     reader.close(piece.whole, net)
 }

@@ -16,7 +16,13 @@ use std::io::Write;
 pub fn read_input<W: Write>(session: &mut Session, input: &[u8], out: &mut W) -> io::Result<()>
     ensures { λ r. ⌜ made r (λ _. standing (now (session .exit)) ≡ afterAll (standing (now (session .entry))) (row (now (input .entry)))) ⌝ }
 {
-    let mut records = Records::new(input);
+    take_all(session, Records::new(input), out)
+}
+
+// Takes all records that are left.
+fn take_all<W: Write>(session: &mut Session, mut records: Records, out: &mut W) -> io::Result<()>
+    ensures { λ r. ⌜ made r (λ _. standing (now (session .exit)) ≡ afterAll (standing (now (session .entry))) (row (now (records .entry .rest)))) ⌝ }
+{
     while let Some(piece) = records.next() {
         let line = session.take(piece)?;
         print_line(line, out)?;

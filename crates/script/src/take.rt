@@ -9,7 +9,7 @@ ghost use Rattle.records.specs.Records.{recordOf};
 ghost use Rattle.bytes.specs.Answers.{extent, verdict};
 ghost use Rattle.script.specs.Models.{standing};
 ghost use Rattle.script.specs.SessionLaws.{RefusedOnlyCounts, CutIsRefused};
-ghost use Rattle.script.specs.Session.{lengthFits, portFits, packetFits, arrivalFits, flowNumbered, takePacket, takeRecord, becomes, flowIn, flowRead, keepsNumber, noted, counted, takesNumber, step};
+ghost use Rattle.script.specs.Session.{lengthFits, portFits, packetFits, arrivalFits, flowNumbered, takePacket, takeRecord, becomes, flowIn, flowRead, keepsNumber, noted, counted, takesNumber, readAs, step};
 use super::line::Cause;
 use super::line::Line;
 use super::line::Name;
@@ -18,7 +18,6 @@ use bytes::fault::Fault;
 use bytes::piece::Piece;
 use flows::flow::Flow;
 use flows::net::Net;
-use flows::road::on_road;
 use records::read::read_record;
 use records::record::Arrival;
 use records::record::Packet;
@@ -37,8 +36,7 @@ fn length_fits(flow: &Flow, length: u8) -> bool
 fn port_fits(flow: &Flow, net: &Net, switch: u8, port: u8) -> bool
     ensures { λ r. ⌜ r ≡ portFits (flowOf (now (flow .entry))) (netOf (now (net .entry))) switch port ⌝ }
 {
-    let hops = flow.hops as usize;
-    on_road(port, &flow.road[0..hops]) && net.port(port).switch == switch
+    flow.passes(port) && net.port(port).switch == switch
 }
 
 impl Session {
@@ -146,14 +144,21 @@ impl Session {
         }
     }
 
-    // One record of the input, and what is said of it. Without memory nothing changes.
-    pub fn take(&mut self, piece: Piece) -> Result<Line, AllocError>
-        ensures refusals { λ _. ⌜ RefusedOnlyCounts ⌝ }
-        ensures cuts { λ _. ⌜ CutIsRefused ⌝ }
-        ensures value { λ r. ⌜ ByOk r (λ line. (line, standing (now (self .exit))) ≡ step (standing (now (self .entry))) (extent (piece .entry))) (λ _. standing (now (self .exit)) ≡ standing (now (self .entry))) ⌝ }
+    // What a record is read as where the program stands. The laws are those of what becomes of it.
+    fn read_here(&self, piece: Piece) -> Result<Record, Fault>
+        ensures laws { λ _. ⌜ RefusedOnlyCounts × CutIsRefused ⌝ }
+        ensures value { λ r. ⌜ verdict recordOf r ≡ readAs (standing (now (self .entry))) (extent (piece .entry)) ⌝ }
     {
         let least = self.least_switches();
-        let read = read_record(self.program, self.stage, &self.net, least, piece);
+        read_record(self.program, self.stage, &self.net, least, piece)
+    }
+
+    // One record of the input, and what is said of it. Without memory nothing changes.
+    pub fn take(&mut self, piece: Piece) -> Result<Line, AllocError>
+        ensures laws { λ _. ⌜ RefusedOnlyCounts × CutIsRefused ⌝ }
+        ensures value { λ r. ⌜ ByOk r (λ line. (line, standing (now (self .exit))) ≡ step (standing (now (self .entry))) (extent (piece .entry))) (λ _. standing (now (self .exit)) ≡ standing (now (self .entry))) ⌝ }
+    {
+        let read = self.read_here(piece);
         let flow = flow_read(&read);
         self.note(piece.bytes, flow)?;
         let line = self.judge(piece.bytes, read);

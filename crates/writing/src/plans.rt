@@ -21,16 +21,31 @@ pub fn write_flow(heap: Global, flow: &Flow) -> Result<Vec<u8>, AllocError>
     ensures { λ r. ⌜ made r (λ v. vec-items v ≡ flowBytes (flowOf (now (flow .entry)))) ⌝ }
 {
     let mut out = Vec::new(heap);
-    put_byte(&mut out, 1)?;
-    put_byte(&mut out, flow.class)?;
-    put_byte(&mut out, flow.longest)?;
-    put_short(&mut out, flow.burst)?;
-    put_word(&mut out, flow.rate)?;
-    put_word(&mut out, flow.deadline)?;
-    put_byte(&mut out, flow.hops)?;
+    put_flow(&mut out, flow)?;
+    Ok(out)
+}
+
+pub fn write_net(heap: Global, net: &Net) -> Result<Vec<u8>, AllocError>
+    ensures { λ r. ⌜ made r (λ v. vec-items v ≡ netBytes (netOf (now (net .entry)))) ⌝ }
+{
+    let mut out = Vec::new(heap);
+    put_net(&mut out, net)?;
+    Ok(out)
+}
+
+fn put_flow(out: &mut Vec<u8>, flow: &Flow) -> Result<(), AllocError>
+    ensures { λ r. ⌜ made r (λ _. vec-items (now (out .exit)) ≡ vec-items (now (out .entry)) ++ flowBytes (flowOf (now (flow .entry)))) ⌝ }
+{
+    put_byte(out, 1)?;
+    put_byte(out, flow.class)?;
+    put_byte(out, flow.longest)?;
+    put_short(out, flow.burst)?;
+    put_word(out, flow.rate)?;
+    put_word(out, flow.deadline)?;
+    put_byte(out, flow.hops)?;
     let hops = flow.hops as usize;
     out.extend_from_slice(&flow.road[0..hops])?;
-    Ok(out)
+    Ok(())
 }
 
 fn put_port(out: &mut Vec<u8>, port: Port) -> Result<(), AllocError>
@@ -60,16 +75,15 @@ fn put_memories(out: &mut Vec<u8>, memories: &[u32]) -> Result<(), AllocError>
     Ok(())
 }
 
-pub fn write_net(heap: Global, net: &Net) -> Result<Vec<u8>, AllocError>
-    ensures { λ r. ⌜ made r (λ v. vec-items v ≡ netBytes (netOf (now (net .entry)))) ⌝ }
+fn put_net(out: &mut Vec<u8>, net: &Net) -> Result<(), AllocError>
+    ensures { λ r. ⌜ made r (λ _. vec-items (now (out .exit)) ≡ vec-items (now (out .entry)) ++ netBytes (netOf (now (net .entry)))) ⌝ }
 {
     let count = net.count as usize;
     let switches = net.switches as usize;
-    let mut out = Vec::new(heap);
-    put_byte(&mut out, 2)?;
-    put_byte(&mut out, net.count)?;
-    put_ports(&mut out, &net.ports[0..count])?;
-    put_byte(&mut out, net.switches)?;
-    put_memories(&mut out, &net.memory[0..switches])?;
-    Ok(out)
+    put_byte(out, 2)?;
+    put_byte(out, net.count)?;
+    put_ports(out, &net.ports[0..count])?;
+    put_byte(out, net.switches)?;
+    put_memories(out, &net.memory[0..switches])?;
+    Ok(())
 }

@@ -18,17 +18,15 @@ pub fn write_packet(heap: Global, packet: Packet) -> Result<Vec<u8>, AllocError>
     ensures { λ r. ⌜ made r (λ v. vec-items v ≡ packetBytes packet) ⌝ }
 {
     let mut out = Vec::new(heap);
-    put_byte(&mut out, 3)?;
-    put_short(&mut out, packet.flow)?;
-    put_byte(&mut out, packet.length)?;
+    put_packet(&mut out, packet)?;
     Ok(out)
 }
 
 pub fn write_arrival(heap: Global, arrival: Arrival) -> Result<Vec<u8>, AllocError>
     ensures { λ r. ⌜ made r (λ v. vec-items v ≡ arrivalBytes arrival) ⌝ }
 {
-    let mut out = write_packet(heap, arrival.packet)?;
-    put_byte(&mut out, arrival.port)?;
+    let mut out = Vec::new(heap);
+    put_arrival(&mut out, arrival)?;
     Ok(out)
 }
 
@@ -36,8 +34,7 @@ pub fn write_ticks(heap: Global, ticks: Ticks) -> Result<Vec<u8>, AllocError>
     ensures { λ r. ⌜ made r (λ v. vec-items v ≡ ticksBytes ticks) ⌝ }
 {
     let mut out = Vec::new(heap);
-    put_byte(&mut out, 4)?;
-    put_word(&mut out, ticks.count)?;
+    put_ticks(&mut out, ticks)?;
     Ok(out)
 }
 
@@ -45,7 +42,39 @@ pub fn write_switch(heap: Global, switch: Switch) -> Result<Vec<u8>, AllocError>
     ensures { λ r. ⌜ made r (λ v. vec-items v ≡ switchBytes switch) ⌝ }
 {
     let mut out = Vec::new(heap);
-    put_byte(&mut out, 5)?;
-    put_byte(&mut out, switch.number)?;
+    put_switch(&mut out, switch)?;
     Ok(out)
+}
+
+fn put_packet(out: &mut Vec<u8>, packet: Packet) -> Result<(), AllocError>
+    ensures { λ r. ⌜ made r (λ _. vec-items (now (out .exit)) ≡ vec-items (now (out .entry)) ++ packetBytes packet) ⌝ }
+{
+    put_byte(out, 3)?;
+    put_short(out, packet.flow)?;
+    put_byte(out, packet.length)?;
+    Ok(())
+}
+
+fn put_arrival(out: &mut Vec<u8>, arrival: Arrival) -> Result<(), AllocError>
+    ensures { λ r. ⌜ made r (λ _. vec-items (now (out .exit)) ≡ vec-items (now (out .entry)) ++ arrivalBytes arrival) ⌝ }
+{
+    put_packet(out, arrival.packet)?;
+    put_byte(out, arrival.port)?;
+    Ok(())
+}
+
+fn put_ticks(out: &mut Vec<u8>, ticks: Ticks) -> Result<(), AllocError>
+    ensures { λ r. ⌜ made r (λ _. vec-items (now (out .exit)) ≡ vec-items (now (out .entry)) ++ ticksBytes ticks) ⌝ }
+{
+    put_byte(out, 4)?;
+    put_word(out, ticks.count)?;
+    Ok(())
+}
+
+fn put_switch(out: &mut Vec<u8>, switch: Switch) -> Result<(), AllocError>
+    ensures { λ r. ⌜ made r (λ _. vec-items (now (out .exit)) ≡ vec-items (now (out .entry)) ++ switchBytes switch) ⌝ }
+{
+    put_byte(out, 5)?;
+    put_byte(out, switch.number)?;
+    Ok(())
 }
