@@ -4,5 +4,5 @@ use script::run::run;
 use std::error::AnyError;
 
 fn main(rt: LibcRuntime) -> Result<(), AnyError> {
-    rt.report(run(&rt, Program::Evening))
+    run(&rt, Program::Evening)
 }

@@ -1,4 +1,4 @@
-// A program as it is run: standard input whole, lines to standard output.
+// A program as it is run: standard input whole, lines to standard output, and a message on standard error where it fails.
 use super::input::print_closing;
 use super::input::read_input;
 use super::session::Session;
@@ -9,6 +9,25 @@ use std::io::Read;
 use std::io::Write;
 
 pub fn run(rt: &LibcRuntime, program: Program) -> Result<(), AnyError> {
+    match read_and_print(rt, program) {
+        Ok(()) => Ok(()),
+        Err(error) => {
+            let name = name_of(program);
+            eprintln!(rt, "{name}: {error}")?;
+            Err(error)
+        }
+    }
+}
+
+fn name_of(program: Program) -> &'static str {
+    match program {
+        Program::Admit => "admit",
+        Program::Ports => "ports",
+        Program::Evening => "evening",
+    }
+}
+
+fn read_and_print(rt: &LibcRuntime, program: Program) -> Result<(), AnyError> {
     let mut input = Vec::new(rt.alloc());
     rt.stdin().read_to_end(&mut input)?;
     let mut session = Session::new(rt.alloc(), program);
