@@ -1,0 +1,41 @@
+-- Laws of promises. Assumes nothing.
+use mathlib.Core.Path.{_≡_}
+use mathlib.Core.List.{List, [], _∷_, _++_}
+use Prim.Native.Nat.{ℕ, _≤_, _<_}
+use Rattle.std.specs.shelf.Lists.{All}
+use Rattle.std.specs.declared.option.Option.the-variants.{Some}
+use Rattle.flows.specs.Flow.{FlowModel}
+use Rattle.promises.specs.Promises.{den, before, promise, queueNeed, portNeed}
+use Rattle.promises.specs.Examples.{WorkedExamples}
+use Rattle.promises.specs.Loads.{noLoad, loadOf, loadPromise}
+
+-- classes are 0 to 7
+abbrev pub Classed : FlowModel → Type 0
+Classed f = f .class ≤ 7
+
+-- a longest packet fits its flow's burst
+abbrev pub Holding : FlowModel → Type 0
+Holding f = f .longest ≤ f .burst
+
+-- the sums that are kept give the promise of the definition
+abbrev pub SumsKept : Type 0
+SumsKept =
+    (p c : ℕ) (fs : List FlowModel) → All Classed fs → c ≤ 7 → before p c fs < den →
+    loadPromise (loadOf p noLoad fs) c ≡ Some (promise p c fs)
+
+-- one flow more never shortens a promise
+abbrev pub NeverShorter : Type 0
+NeverShorter =
+    (p c : ℕ) (fs gs : List FlowModel) (f : FlowModel) → before p c (fs ++ f ∷ gs) < den →
+    promise p c (fs ++ gs) ≤ promise p c (fs ++ f ∷ gs)
+
+-- what is set aside for a port is enough for every class prefix of its queues
+abbrev pub PortCovers : Type 0
+PortCovers = (p c : ℕ) (fs : List FlowModel) → All Classed fs → All Holding fs → queueNeed p c fs ≤ portNeed p fs
+
+-- all of these, and the worked examples
+pub record PromiseLaws : Type 0 where
+  pub kept : SumsKept
+  pub grows : NeverShorter
+  pub covers : PortCovers
+  pub examples : WorkedExamples

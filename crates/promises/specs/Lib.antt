@@ -1,0 +1,5 @@
+pub mod Promises
+pub mod Loads
+pub mod Examples
+pub mod Models
+pub mod Laws
