@@ -1,2 +1,3 @@
 pub mod SumLaws
+pub mod TableLaws
 pub mod PromiseLaws

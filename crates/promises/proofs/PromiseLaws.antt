@@ -19,6 +19,7 @@ use Rattle.promises.specs.Loads.{LoadModel, noLoad, loadOf, total, largest, lo
 use Rattle.promises.specs.Laws.{Classed, Holding, SumsKept, NeverShorter, PortCovers, PromiseLaws}
 use Rattle.promises.specs.Examples.{WorkedExamples}
 use Rattle.flows.specs.FlowFormat.{passes}
+use Rattle.promises.proofs.TableLaws.{table-kept}
 use Rattle.promises.proofs.SumLaws.{Sized, kept-bursts, kept-rates, kept-longest}
 
 -- an empty table
@@ -117,4 +118,4 @@ unfolding bursts before long dueOver goes windowed passes
 worked-examples = (refl, (refl, (refl, (refl, (refl, (refl, (refl, (refl, (refl, (refl, (refl, tt)))))))))))
 
 pub promise-laws : PromiseLaws
-promise-laws = record { kept = sums-kept; grows = never-shorter; covers = port-covers; examples = worked-examples }
+promise-laws = record { kept = sums-kept; table = table-kept; grows = never-shorter; covers = port-covers; examples = worked-examples }

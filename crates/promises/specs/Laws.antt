@@ -4,10 +4,11 @@ use mathlib.Core.List.{List, [], _∷_, _++_}
 use Prim.Native.Nat.{ℕ, _≤_, _<_}
 use Rattle.std.specs.shelf.Lists.{All}
 use Rattle.std.specs.declared.option.Option.the-variants.{Some}
-use Rattle.flows.specs.Flow.{FlowModel}
+use lib.ListN.{length, getD}
+use Rattle.flows.specs.Flow.{FlowModel, Once}
 use Rattle.promises.specs.Promises.{den, before, promise, queueNeed, portNeed}
 use Rattle.promises.specs.Examples.{WorkedExamples}
-use Rattle.promises.specs.Loads.{noLoad, loadOf, loadPromise}
+use Rattle.promises.specs.Loads.{LoadModel, noLoad, loadOf, loadPromise, loadsWith}
 
 -- classes are 0 to 7
 abbrev pub Classed : FlowModel → Type 0
@@ -23,6 +24,16 @@ SumsKept =
     (p c : ℕ) (fs : List FlowModel) → All Classed fs → c ≤ 7 → before p c fs < den →
     loadPromise (loadOf p noLoad fs) c ≡ Some (promise p c fs)
 
+-- a table of all ports is what a list of flows asks of each
+abbrev pub Kept : List LoadModel → List FlowModel → Type 0
+Kept ts fs = (q : ℕ) → q < 64 → getD ts q noLoad ≡ loadOf q noLoad fs
+
+-- and stays so with a flow more, whose road passes no port twice
+abbrev pub TableKept : Type 0
+TableKept =
+    (ts us : List LoadModel) (fs : List FlowModel) (f : FlowModel) → length ts ≡ 64 → Once (f .road) → All (λ p. p < 64) (f .road) →
+    Kept ts fs → loadsWith f (f .road) ts ≡ Some us → Kept us (fs ++ f ∷ [])
+
 -- one flow more never shortens a promise
 abbrev pub NeverShorter : Type 0
 NeverShorter =
@@ -36,6 +47,7 @@ PortCovers = (p c : ℕ) (fs : List FlowModel) → All Classed fs → All Holdin
 -- all of these, and the worked examples
 pub record PromiseLaws : Type 0 where
   pub kept : SumsKept
+  pub table : TableKept
   pub grows : NeverShorter
   pub covers : PortCovers
   pub examples : WorkedExamples

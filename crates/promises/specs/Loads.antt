@@ -61,3 +61,13 @@ loadPromise t c =
 abbrev pub loadFits : LoadModel → FlowModel → Bool
 loadFits t f =
     ltb (getD (t .bursts) (f .class) 0 + f .burst) 4294967296 && ltb (getD (t .rates) (f .class) 0 + f .rate) 4294967296
+
+-- A flow more at each port of a road, one after the other; None where a sum would pass 32 bits.
+unfoldable pub loadsWith : FlowModel → List ℕ → List LoadModel → Option (List LoadModel)
+loadsWith f [] ts = Some ts
+loadsWith f (p ∷ ps) ts =
+    cond (loadFits (getD ts p noLoad) f) (loadsWith f ps (set ts p (loadWith (getD ts p noLoad) f))) None
+
+-- what port p promises class c by a table of all ports
+abbrev pub loadsPromise : List LoadModel → ℕ → ℕ → Option ℕ
+loadsPromise ts p c = cond (leb c 7) (loadPromise (getD ts p noLoad) c) None
