@@ -1,3 +1,4 @@
 pub mod SumLaws
 pub mod TableLaws
+pub mod DueLaws
 pub mod PromiseLaws

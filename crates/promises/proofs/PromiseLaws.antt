@@ -7,16 +7,17 @@ use Prim.Native.Nat.{ℕ, zero, suc, _+_, _-_, _*_, _/_, _≤_, _<_, max}
 use native.Mathlib.Nat.{zero-add, div-mul-le-self}
 use native.Mathlib.Omega.{arith}
 use lib.Dec.{leb, ltb}
-use lib.ListN.{take, drop, replicate}
+use lib.ListN.{length, getD, take, drop, replicate}
 use Rattle.std.specs.shelf.Lists.{All}
 use Rattle.std.specs.declared.option.Option.{Option}
 use Rattle.std.specs.declared.option.Option.the-variants.{Some, None}
 use Rattle.std.proofs.shelf.Bits.{mul-le, le-div}
 use Rattle.std.proofs.shelf.Tests.{cases-lt, cases-bool, lt-ltb, le-ltb, le-leb, lt-leb}
+use Rattle.flows.specs.Net.{NetModel, portAt}
 use Rattle.flows.specs.Flow.{FlowModel}
-use Rattle.promises.specs.Promises.{den, over, bursts, before, long, promise, queueNeed, portNeed, dueOver, goes, windowed}
-use Rattle.promises.specs.Loads.{LoadModel, noLoad, loadOf, total, largest, loadBefore, loadBursts, loadLong, loadPromise}
-use Rattle.promises.specs.Laws.{Classed, Holding, SumsKept, NeverShorter, PortCovers, PromiseLaws}
+use Rattle.promises.specs.Promises.{den, over, bursts, before, long, promise, queueNeed, portNeed, dues, dueOver, goes, windowed}
+use Rattle.promises.specs.Loads.{LoadModel, noLoad, loadOf, total, largest, loadBefore, loadBursts, loadLong, loadPromise, loadsPromise, behindDue, loadsDues}
+use Rattle.promises.specs.Laws.{Classed, Holding, SumsKept, NeverShorter, PortCovers, DuesKept, LastIsDue, PromiseLaws}
 use Rattle.promises.specs.Examples.{WorkedExamples}
 use Rattle.flows.specs.FlowFormat.{passes}
 use Rattle.promises.proofs.TableLaws.{table-kept}
@@ -113,9 +114,33 @@ port-covers p c (f ∷ fs) low holds =
       | inr off ↦ rw off (omega arith)
     ])
 
+pub dues-kept : DuesKept
+unfolding loadsDues dues
+dues-kept net ts fs c t [] kept low small known = refl
+dues-kept net ts fs c t (p ∷ ps) kept low small known =
+    let here : loadsPromise ts p c ≡ Some (promise p c fs) =
+    rw (le-leb c 7 small, kept p (known .0 .0)) (sums-kept p c fs low small (known .0 .1)) in
+    let rest = dues-kept net ts fs c (t + promise p c fs + portAt net p .wire) ps kept low small (known .1) in
+    rw (here, loadsDues) (ap (behindDue (t + promise p c fs)) rest)
+
+-- dues with t ticks before them
+later-due : (net : NetModel) (fs : List FlowModel) (c t p : ℕ) (ps : List ℕ) →
+    getD (dues net fs c t (p ∷ ps)) (length ps) 0 ≡ t + dueOver net fs c (p ∷ ps)
+unfolding dues dueOver
+later-due net fs c t p [] = refl
+later-due net fs c t p (q ∷ ps) =
+    let more = later-due net fs c (t + promise p c fs + portAt net p .wire) q ps in
+    more ∙ regroup t (promise p c fs) (portAt net p .wire) (dueOver net fs c (q ∷ ps))
+  where
+    regroup : (a b d e : ℕ) → a + b + d + e ≡ a + (b + d + e)
+    regroup a b d e = omega arith
+
+pub last-is-due : LastIsDue
+last-is-due net fs c p ps = later-due net fs c 0 p ps ∙ zero-add (dueOver net fs c (p ∷ ps))
+
 pub worked-examples : WorkedExamples
 unfolding bursts before long dueOver goes windowed passes
 worked-examples = (refl, (refl, (refl, (refl, (refl, (refl, (refl, (refl, (refl, (refl, (refl, tt)))))))))))
 
 pub promise-laws : PromiseLaws
-promise-laws = record { kept = sums-kept; table = table-kept; grows = never-shorter; covers = port-covers; examples = worked-examples }
+promise-laws = record { kept = sums-kept; table = table-kept; dues = dues-kept; last = last-is-due; grows = never-shorter; covers = port-covers; examples = worked-examples }

@@ -5,10 +5,11 @@ use Prim.Native.Nat.{ℕ, _≤_, _<_}
 use Rattle.std.specs.shelf.Lists.{All}
 use Rattle.std.specs.declared.option.Option.the-variants.{Some}
 use lib.ListN.{length, getD}
+use Rattle.flows.specs.Net.{NetModel}
 use Rattle.flows.specs.Flow.{FlowModel, Once}
-use Rattle.promises.specs.Promises.{den, before, promise, queueNeed, portNeed}
+use Rattle.promises.specs.Promises.{den, before, promise, dues, dueOver, queueNeed, portNeed}
 use Rattle.promises.specs.Examples.{WorkedExamples}
-use Rattle.promises.specs.Loads.{LoadModel, noLoad, loadOf, loadPromise, loadsWith}
+use Rattle.promises.specs.Loads.{LoadModel, noLoad, loadOf, loadPromise, loadsWith, loadsDues}
 
 -- classes are 0 to 7
 abbrev pub Classed : FlowModel → Type 0
@@ -34,6 +35,18 @@ TableKept =
     (ts us : List LoadModel) (fs : List FlowModel) (f : FlowModel) → length ts ≡ 64 → Once (f .road) → All (λ p. p < 64) (f .road) →
     Kept ts fs → loadsWith f (f .road) ts ≡ Some us → Kept us (fs ++ f ∷ [])
 
+-- the dues by a table that is kept are the dues of the definition, where every port of the road has a promise
+abbrev pub DuesKept : Type 0
+DuesKept =
+    (net : NetModel) (ts : List LoadModel) (fs : List FlowModel) (c t : ℕ) (road : List ℕ) → Kept ts fs → All Classed fs → c ≤ 7 →
+    All (λ p. (p < 64) × (before p c fs < den)) road → loadsDues net ts c t road ≡ Some (dues net fs c t road)
+
+-- the last of the dues up to each port is the due over the whole road
+abbrev pub LastIsDue : Type 0
+LastIsDue =
+    (net : NetModel) (fs : List FlowModel) (c p : ℕ) (ps : List ℕ) →
+    getD (dues net fs c 0 (p ∷ ps)) (length ps) 0 ≡ dueOver net fs c (p ∷ ps)
+
 -- one flow more never shortens a promise
 abbrev pub NeverShorter : Type 0
 NeverShorter =
@@ -48,6 +61,8 @@ PortCovers = (p c : ℕ) (fs : List FlowModel) → All Classed fs → All Holdin
 pub record PromiseLaws : Type 0 where
   pub kept : SumsKept
   pub table : TableKept
+  pub dues : DuesKept
+  pub last : LastIsDue
   pub grows : NeverShorter
   pub covers : PortCovers
   pub examples : WorkedExamples

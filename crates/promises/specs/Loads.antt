@@ -6,6 +6,7 @@ use lib.Dec.{leb, ltb}
 use lib.ListN.{length, getD, set, take, drop, replicate}
 use Rattle.std.specs.declared.option.Option.{Option}
 use Rattle.std.specs.declared.option.Option.the-variants.{Some, None}
+use Rattle.flows.specs.Net.{NetModel, portAt}
 use Rattle.flows.specs.Flow.{FlowModel}
 use Rattle.promises.specs.Promises.{den, over}
 
@@ -71,3 +72,16 @@ loadsWith f (p ∷ ps) ts =
 -- what port p promises class c by a table of all ports
 abbrev pub loadsPromise : List LoadModel → ℕ → ℕ → Option ℕ
 loadsPromise ts p c = cond (leb c 7) (loadPromise (getD ts p noLoad) c) None
+
+-- the dues up to each port of a road, where t ticks are due before it; None where a port has no promise
+abbrev pub behindDue : ℕ → Option (List ℕ) → Option (List ℕ)
+behindDue d None = None
+behindDue d (Some ds) = Some (d ∷ ds)
+
+unfoldable pub loadsDues : NetModel → List LoadModel → ℕ → ℕ → List ℕ → Option (List ℕ)
+loadsDues net ts c t [] = Some []
+loadsDues net ts c t (p ∷ ps) =
+    elim (loadsPromise ts p c) [
+      | None ↦ None
+      | Some d ↦ behindDue (t + d) (loadsDues net ts c (t + d + portAt net p .wire) ps)
+    ]

@@ -1,10 +1,11 @@
 // What a port promises, from the sums that are kept for it.
 ghost use mathlib.Core.Path.{_≡_};
 ghost use mathlib.Core.Bool.{cond, _&&_};
-ghost use Prim.Native.Nat.{_+_, _<_, _≤_};
+ghost use Prim.Native.Nat.{_+_, _-_, _*_, _/_, _<_, _≤_};
 ghost use lib.Dec.{leb, ltb};
 ghost use lib.ListN.{length};
 ghost use Rattle.std.specs.Options.{mapped};
+ghost use Rattle.std.specs.Options.{Cases as BySome};
 ghost use Rattle.std.specs.declared.option.Option.the-variants.{Some, None};
 ghost use Rattle.flows.specs.Models.{flowOf};
 ghost use Rattle.promises.specs.Loads.{noLoad, loadWith, loadBursts, loadBefore, loadLong, loadPromise, loadFits, total};
@@ -62,6 +63,7 @@ impl Load {
     // what is no class.
     pub fn promise(&self, class: u8) -> Option<u64>
         ensures value { λ r. ⌜ r ≡ cond (leb class 7) (loadPromise (loadModel (now (self .entry))) class) None ⌝ }
+        ensures small { λ r. ⌜ BySome r (Unit {0}) (λ n. n ≤ 34359738615000000) ⌝ }
         ensures laws { λ _. ⌜ PromiseLaws ⌝ }
     {
         if !is_class(class) {
@@ -72,7 +74,7 @@ impl Load {
             return None;
         }
         let ticks = self.longest_above(class) as u64 + self.bursts_up_to(class);
-        Some(ticks * DEN / (DEN - before))
+        Some(share(ticks, before))
     }
 
     // One flow more; None where a sum would pass 32 bits.
@@ -105,6 +107,15 @@ impl Load {
     {
         sum(&self.bursts)
     }
+}
+
+// Ticks of sending, where only what is left of the port sends them, rounded down.
+fn share(ticks: u64, before: u64) -> u64
+    requires { ⌜ before < 1000000 ⌝ ∗ ⌜ ticks ≤ 34359738615 ⌝ }
+    ensures value { λ r. ⌜ r ≡ ticks * 1000000 / (1000000 - before) ⌝ }
+    ensures small { λ r. ⌜ r ≤ 34359738615000000 ⌝ }
+{
+    ticks * DEN / (DEN - before)
 }
 
 // Whether this is a class, of which there are eight. The laws are those of promises.

@@ -1,13 +1,16 @@
 // What the ports of a net promise, from the sums that are kept for each.
 ghost use mathlib.Core.Path.{_≡_};
-ghost use lib.ListN.{getD, replicate, set};
+ghost use Prim.Native.Nat.{_≤_};
+ghost use lib.ListN.{getD, length, replicate, set, take};
 ghost use Rattle.std.specs.Options.{mapped};
-ghost use Rattle.flows.specs.Models.{flowOf};
-ghost use Rattle.promises.specs.Loads.{noLoad, loadsWith, loadsPromise};
+ghost use Rattle.std.specs.Options.{Cases as BySome};
+ghost use Rattle.flows.specs.Models.{netOf, flowOf};
+ghost use Rattle.promises.specs.Loads.{noLoad, loadsWith, loadsPromise, loadsDues};
 ghost use Rattle.promises.specs.Models.{loadModel, loadsModel};
 use super::load::Load;
 use super::loads::Loads;
 use flows::flow::Flow;
+use flows::net::Net;
 
 impl Loads {
     // Nothing is asked of any port.
@@ -21,9 +24,18 @@ impl Loads {
 
     // What a port promises a class; past the last port as where nothing is asked.
     pub fn promise(&self, port: u8, class: u8) -> Option<u64>
-        ensures { λ r. ⌜ r ≡ loadsPromise (loadsModel (now (self .entry))) port class ⌝ }
+        ensures value { λ r. ⌜ r ≡ loadsPromise (loadsModel (now (self .entry))) port class ⌝ }
+        ensures small { λ r. ⌜ BySome r (Unit {0}) (λ n. n ≤ 34359738615000000) ⌝ }
     {
         self.at(port).promise(class)
+    }
+
+    // What a flow is due up to each port of its road; None where a port has no promise for it.
+    pub fn dues(&self, net: &Net, flow: &Flow) -> Option<[u64; 16]>
+        ensures { λ r. ⌜ mapped (take (now (flow .entry) .hops)) r ≡ loadsDues (netOf (now (net .entry))) (loadsModel (now (self .entry))) (now (flow .entry) .class) 0 (flowOf (now (flow .entry)) .road) ⌝ }
+    {
+        let hops = flow.hops as usize;
+        self.dues_along(net, flow.class, &flow.road[0..hops])
     }
 
     // One flow more at each port of its road; None where a sum would pass 32 bits.
@@ -66,5 +78,23 @@ impl Loads {
             loads.put(*port, load);
         }
         Some(loads)
+    }
+
+    fn dues_along(&self, net: &Net, class: u8, road: &[u8]) -> Option<[u64; 16]>
+        requires { ⌜ length (now road) ≤ 16 ⌝ }
+        ensures { λ r. ⌜ mapped (take (length (now (road .entry)))) r ≡ loadsDues (netOf (now (net .entry))) (loadsModel (now (self .entry))) class 0 (now (road .entry)) ⌝ }
+    {
+        let mut dues = [0; 16];
+        let mut ticks: u64 = 0;
+        for i in 0..road.len() {
+            let port = road[i];
+            let Some(promise) = self.promise(port, class) else {
+                return None;
+            };
+            let due = ticks + promise;
+            dues[i] = due;
+            ticks = due + net.port(port).wire as u64;
+        }
+        Some(dues)
     }
 }
