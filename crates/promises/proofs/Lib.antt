@@ -1,4 +1,5 @@
 pub mod SumLaws
 pub mod TableLaws
 pub mod DueLaws
+pub mod PairLaws
 pub mod PromiseLaws

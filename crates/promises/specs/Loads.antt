@@ -8,7 +8,7 @@ use Rattle.std.specs.declared.option.Option.{Option}
 use Rattle.std.specs.declared.option.Option.the-variants.{Some, None}
 use Rattle.flows.specs.Net.{NetModel, portAt}
 use Rattle.flows.specs.Flow.{FlowModel}
-use Rattle.promises.specs.Promises.{den, over}
+use Rattle.promises.specs.Promises.{den, over, goes}
 
 -- class by class: the sum of the bursts, the sum of the rates, the longest packet
 pub record LoadModel : Type 0 where
@@ -85,3 +85,22 @@ loadsDues net ts c t (p ∷ ps) =
       | None ↦ None
       | Some d ↦ behindDue (t + d) (loadsDues net ts c (t + d + portAt net p .wire) ps)
     ]
+
+-- what the flows of a list that go from port p directly to port q ask, on top of what was asked before
+unfoldable pub pairOf : ℕ → ℕ → LoadModel → List FlowModel → LoadModel
+pairOf p q t [] = t
+pairOf p q t (f ∷ fs) = pairOf p q (cond (goes p q (f .road)) (loadWith t f) t) fs
+
+-- a table of tables: for each port, what goes on from it to each
+abbrev pub pairAt : List (List LoadModel) → ℕ → ℕ → LoadModel
+pairAt tables p q = getD (getD tables p []) q noLoad
+
+abbrev pub putPair : List (List LoadModel) → ℕ → ℕ → LoadModel → List (List LoadModel)
+putPair tables p q t = set tables p (set (getD tables p []) q t)
+
+-- A flow more from each port of a road to the next, one after the other; None where a sum would pass 32 bits.
+unfoldable pub pairsWith : FlowModel → List ℕ → List (List LoadModel) → Option (List (List LoadModel))
+pairsWith f [] tables = Some tables
+pairsWith f (p ∷ []) tables = Some tables
+pairsWith f (p ∷ q ∷ ps) tables =
+    cond (loadFits (pairAt tables p q) f) (pairsWith f (q ∷ ps) (putPair tables p q (loadWith (pairAt tables p q) f))) None

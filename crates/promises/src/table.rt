@@ -47,7 +47,7 @@ impl Loads {
     }
 
     // What is asked of a port; nothing past the last one.
-    fn at(&self, port: u8) -> Load
+    pub(crate) fn at(&self, port: u8) -> Load
         ensures { λ r. ⌜ loadModel r ≡ getD (loadsModel (now (self .entry))) port noLoad ⌝ }
     {
         let place = port as usize;
@@ -58,7 +58,7 @@ impl Loads {
     }
 
     // Past the last port nothing changes.
-    fn put(&mut self, port: u8, load: Load)
+    pub(crate) fn put(&mut self, port: u8, load: Load)
         ensures { λ _. ⌜ loadsModel (now (self .exit)) ≡ set (loadsModel (now (self .entry))) port (loadModel load) ⌝ }
     {
         let place = port as usize;
