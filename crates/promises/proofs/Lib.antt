@@ -2,4 +2,5 @@ pub mod SumLaws
 pub mod TableLaws
 pub mod DueLaws
 pub mod PairLaws
+pub mod WindowLaws
 pub mod PromiseLaws

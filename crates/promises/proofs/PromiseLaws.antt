@@ -21,7 +21,9 @@ use Rattle.promises.specs.Laws.{Classed, Holding, SumsKept, NeverShorter, Port
 use Rattle.promises.specs.Examples.{WorkedExamples}
 use Rattle.flows.specs.FlowFormat.{passes}
 use Rattle.promises.proofs.TableLaws.{table-kept}
-use Rattle.promises.proofs.SumLaws.{Sized, kept-bursts, kept-rates, kept-longest}
+use Rattle.promises.proofs.PairLaws.{pairs-kept}
+use Rattle.promises.proofs.WindowLaws.{window-kept}
+use Rattle.promises.proofs.SumLaws.{sized-none, kept-bursts, kept-rates, kept-longest}
 
 -- an empty table
 total-none : (n m : ℕ) → total (take n (replicate m 0)) ≡ 0
@@ -36,9 +38,6 @@ largest-none zero zero = refl
 largest-none zero (suc m) = rw (largest-none zero m) refl
 largest-none (suc n) zero = refl
 largest-none (suc n) (suc m) = largest-none n m
-
-sized-none : Sized noLoad
-sized-none = record { bursts = refl; rates = refl; longest = refl }
 
 pub sums-kept : SumsKept
 sums-kept p c fs low small room =
@@ -143,4 +142,4 @@ unfolding bursts before long dueOver goes windowed passes
 worked-examples = (refl, (refl, (refl, (refl, (refl, (refl, (refl, (refl, (refl, (refl, (refl, tt)))))))))))
 
 pub promise-laws : PromiseLaws
-promise-laws = record { kept = sums-kept; table = table-kept; dues = dues-kept; last = last-is-due; grows = never-shorter; covers = port-covers; examples = worked-examples }
+promise-laws = record { kept = sums-kept; table = table-kept; dues = dues-kept; last = last-is-due; pairs = pairs-kept; window = window-kept; grows = never-shorter; covers = port-covers; examples = worked-examples }

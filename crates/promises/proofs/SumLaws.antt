@@ -13,7 +13,7 @@ use Rattle.std.specs.shelf.Lists.{All}
 use Rattle.std.proofs.shelf.Tests.{cases-lt, cases-bool, lt-ltb, le-ltb, le-leb, lt-leb}
 use Rattle.flows.specs.Flow.{FlowModel}
 use Rattle.promises.specs.Promises.{over, bursts, before, long}
-use Rattle.promises.specs.Loads.{LoadModel, loadWith, loadOf, total, largest}
+use Rattle.promises.specs.Loads.{LoadModel, noLoad, loadWith, loadOf, total, largest}
 use Rattle.promises.specs.Laws.{Classed}
 
 -- v where b holds, else nothing
@@ -56,13 +56,16 @@ pub record Sized (t : LoadModel) : Type 0 where
   pub rates : length (t .rates) ≡ 8
   pub longest : length (t .longest) ≡ 8
 
-sized-with : (t : LoadModel) (f : FlowModel) → Sized t → Sized (loadWith t f)
+pub sized-with : (t : LoadModel) (f : FlowModel) → Sized t → Sized (loadWith t f)
 sized-with t f sized =
     record {
       bursts = length-set (t .bursts) (f .class) _ ∙ sized .bursts;
       rates = length-set (t .rates) (f .class) _ ∙ sized .rates;
       longest = length-set (t .longest) (f .class) _ ∙ sized .longest;
     }
+
+pub sized-none : Sized noLoad
+sized-none = record { bursts = refl; rates = refl; longest = refl }
 
 -- class c or lower is below c + 1
 leb-below : (a c : ℕ) → leb a c ≡ ltb a (c + 1)

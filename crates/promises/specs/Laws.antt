@@ -1,15 +1,15 @@
 -- Laws of promises. Assumes nothing.
 use mathlib.Core.Path.{_≡_}
 use mathlib.Core.List.{List, [], _∷_, _++_}
-use Prim.Native.Nat.{ℕ, _≤_, _<_}
+use Prim.Native.Nat.{ℕ, _+_, _*_, _≤_, _<_}
 use Rattle.std.specs.shelf.Lists.{All}
 use Rattle.std.specs.declared.option.Option.the-variants.{Some}
 use lib.ListN.{length, getD}
 use Rattle.flows.specs.Net.{NetModel}
 use Rattle.flows.specs.Flow.{FlowModel, Once}
-use Rattle.promises.specs.Promises.{den, before, promise, dues, dueOver, queueNeed, portNeed}
+use Rattle.promises.specs.Promises.{den, before, promise, dues, dueOver, windowed, queueNeed, portNeed}
 use Rattle.promises.specs.Examples.{WorkedExamples}
-use Rattle.promises.specs.Loads.{LoadModel, noLoad, loadOf, loadPromise, loadsWith, loadsDues}
+use Rattle.promises.specs.Loads.{LoadModel, noLoad, loadOf, loadPromise, loadsWith, loadsDues, pairOf, pairAt, pairsWith}
 
 -- classes are 0 to 7
 abbrev pub Classed : FlowModel → Type 0
@@ -47,6 +47,27 @@ LastIsDue =
     (net : NetModel) (fs : List FlowModel) (c p : ℕ) (ps : List ℕ) →
     getD (dues net fs c 0 (p ∷ ps)) (length ps) 0 ≡ dueOver net fs c (p ∷ ps)
 
+-- for 64 ports, of each what goes on to each of 64
+pub record Squared (tables : List (List LoadModel)) : Type 0 where
+  pub rows : length tables ≡ 64
+  pub columns : (p : ℕ) → p < 64 → length (getD tables p []) ≡ 64
+
+-- a table of pairs is what a list of flows asks between each two ports
+abbrev pub PairsOf : List (List LoadModel) → List FlowModel → Type 0
+PairsOf tables fs = (p q : ℕ) → p < 64 → q < 64 → pairAt tables p q ≡ pairOf p q noLoad fs
+
+-- and stays so with a flow more
+abbrev pub PairsKept : Type 0
+PairsKept =
+    (tables us : List (List LoadModel)) (fs : List FlowModel) (f : FlowModel) → Squared tables → Once (f .road) → All (λ p. p < 64) (f .road) →
+    PairsOf tables fs → pairsWith f (f .road) tables ≡ Some us → Squared us × PairsOf us (fs ++ f ∷ [])
+
+-- what may come into a regulator within a window, from the sums that are kept
+abbrev pub WindowKept : Type 0
+WindowKept =
+    (p q c window : ℕ) (fs : List FlowModel) → All Classed fs → c ≤ 7 →
+    windowed p q c window fs ≡ den * getD (pairOf p q noLoad fs .bursts) c 0 + getD (pairOf p q noLoad fs .rates) c 0 * window
+
 -- one flow more never shortens a promise
 abbrev pub NeverShorter : Type 0
 NeverShorter =
@@ -63,6 +84,8 @@ pub record PromiseLaws : Type 0 where
   pub table : TableKept
   pub dues : DuesKept
   pub last : LastIsDue
+  pub pairs : PairsKept
+  pub window : WindowKept
   pub grows : NeverShorter
   pub covers : PortCovers
   pub examples : WorkedExamples
