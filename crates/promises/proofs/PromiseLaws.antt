@@ -26,7 +26,7 @@ use Rattle.promises.proofs.WindowLaws.{window-kept}
 use Rattle.promises.proofs.SumLaws.{sized-none, kept-bursts, kept-rates, kept-longest}
 
 -- an empty table
-total-none : (n m : ℕ) → total (take n (replicate m 0)) ≡ 0
+pub total-none : (n m : ℕ) → total (take n (replicate m 0)) ≡ 0
 unfolding total
 total-none zero m = refl
 total-none (suc n) zero = refl

@@ -29,7 +29,13 @@ impl Pairs {
     }
 
     // What goes from one port directly to another.
-    fn pair(&self, p: u8, q: u8) -> Load
+    pub fn pair(&self, p: u8, q: u8) -> Load
+        ensures { λ r. ⌜ loadModel r ≡ pairAt (pairsModel (now (self .entry))) p q ⌝ }
+    {
+        self.pair_load(p, q)
+    }
+
+    fn pair_load(&self, p: u8, q: u8) -> Load
         ensures { λ r. ⌜ loadModel r ≡ pairAt (pairsModel (now (self .entry))) p q ⌝ }
     {
         let place = p as usize;

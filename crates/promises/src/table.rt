@@ -47,7 +47,13 @@ impl Loads {
     }
 
     // What is asked of a port; nothing past the last one.
-    pub(crate) fn at(&self, port: u8) -> Load
+    pub fn at(&self, port: u8) -> Load
+        ensures { λ r. ⌜ loadModel r ≡ getD (loadsModel (now (self .entry))) port noLoad ⌝ }
+    {
+        self.load_at(port)
+    }
+
+    fn load_at(&self, port: u8) -> Load
         ensures { λ r. ⌜ loadModel r ≡ getD (loadsModel (now (self .entry))) port noLoad ⌝ }
     {
         let place = port as usize;

@@ -6,7 +6,7 @@ use lib.ListN.{length, length-map}
 use Rattle.std.proofs.shelf.Lists.{getD-map, getD-past}
 use Rattle.promises.specs.Loads.{noLoad}
 use Rattle.promises.specs.Models.{loadModel}
-use Rattle.promises.proofs.loads.Loads.at.Needs as need
+use Rattle.promises.proofs.loads.Loads.load_at.Needs as need
 
 pub returns-then-place-lt64 : need.returns-then-place-lt64
 returns-then-place-lt64 c =

@@ -6,7 +6,7 @@ use lib.ListN.{length, getD, length-map}
 use Rattle.std.proofs.shelf.Lists.{getD-map, getD-past}
 use Rattle.promises.specs.Loads.{LoadModel, noLoad}
 use Rattle.promises.specs.Models.{loadModel, loadsModel}
-use Rattle.promises.proofs.pairs.Pairs.pair.Needs as need
+use Rattle.promises.proofs.pairs.Pairs.pair_load.Needs as need
 
 pub returns-then-place-lt64 : need.returns-then-place-lt64
 returns-then-place-lt64 c =

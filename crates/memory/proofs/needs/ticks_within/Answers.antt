@@ -1,0 +1,11 @@
+use mathlib.Core.Path.{refl}
+use Prim.Native.Nat.{_≤_}
+use native.Mathlib.Omega.{arith}
+use Rattle.std.proofs.shelf.Bits.{mul-le}
+use Rattle.memory.proofs.NeedLaws.{needs-kept}
+use Rattle.memory.proofs.needs.ticks_within.Needs as need
+
+pub returns : need.returns
+returns c =
+    let product = mul-le (c .args .rates) (c .args .window) 4294967295 18446744073709551615 (omega arith) (omega arith) in
+    record { law = needs-kept; value = refl; small = omega arith }
