@@ -3,7 +3,6 @@
 ghost use Prim.Native.Nat.{_<_};
 ghost use Rattle.std.specs.Options.{Cases as BySome};
 use records::stage::Program;
-use script::input::print_closing;
 use script::input::read_input;
 use script::session::Session;
 use std::alloc::Global;
@@ -39,7 +38,6 @@ fn run_case<W: Write>(heap: Global, number: u64, case: &str, out: &mut W) -> Res
     let mut lines = Vec::new(heap);
     let mut session = Session::new(heap, program);
     read_input(&mut session, input.as_slice(), &mut lines)?;
-    print_closing(&session, &mut lines)?;
     print_lines(number, lines.as_slice(), out)
 }
 

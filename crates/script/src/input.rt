@@ -12,11 +12,12 @@ use records::stage::Program;
 use std::io;
 use std::io::Write;
 
-// Takes all records of an input, and prints the line of each.
+// Takes all records of an input, and prints the line of each, and then what is said at the end.
 pub fn read_input<W: Write>(session: &mut Session, input: &[u8], out: &mut W) -> io::Result<()>
     ensures { λ r. ⌜ made r (λ _. standing (now (session .exit)) ≡ afterAll (standing (now (session .entry))) (row (now (input .entry)))) ⌝ }
 {
-    take_all(session, Records::new(input), out)
+    take_all(session, Records::new(input), out)?;
+    print_closing(session, out)
 }
 
 // Takes all records that are left.
@@ -57,7 +58,7 @@ impl Session {
 }
 
 // Prints what is said at the end.
-pub fn print_closing<W: Write>(session: &Session, out: &mut W) -> io::Result<()> {
+fn print_closing<W: Write>(session: &Session, out: &mut W) -> io::Result<()> {
     for line in session.closing() {
         print_line(line, out)?;
     }

@@ -1,5 +1,4 @@
 // A program as it is run: standard input whole, lines to standard output, and a message on standard error where it fails.
-use super::input::print_closing;
 use super::input::read_input;
 use super::session::Session;
 use records::stage::Program;
@@ -33,7 +32,6 @@ fn read_and_print(rt: &LibcRuntime, program: Program) -> Result<(), AnyError> {
     let mut session = Session::new(rt.alloc(), program);
     let mut out = BufWriter::new(rt.stdout());
     read_input(&mut session, input.as_slice(), &mut out)?;
-    print_closing(&session, &mut out)?;
     out.flush()?;
     Ok(())
 }
