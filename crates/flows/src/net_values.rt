@@ -33,6 +33,14 @@ impl Net {
         port_in(&self.ports[0..count], number)
     }
 
+    // The memory of a switch; none where there is no such switch.
+    pub fn memory_of(&self, switch: u8) -> u32
+        ensures { λ r. ⌜ r ≡ getD (netOf (now (self .entry)) .memories) switch 0 ⌝ }
+    {
+        let switches = self.switches as usize;
+        memory_in(&self.memory[0..switches], switch)
+    }
+
     // The memories of all switches together, in ticks.
     pub fn memory_together(&self) -> u64
         ensures { λ r. ⌜ r ≡ together (netOf (now (self .entry)) .memories) ⌝ }
@@ -55,6 +63,17 @@ fn port_in(ports: &[Port], number: u8) -> Port
         ends: 0,
         wire: 0,
     }
+}
+
+// A memory by its place in a table; none past its end.
+fn memory_in(memories: &[u32], switch: u8) -> u32
+    ensures { λ r. ⌜ r ≡ getD (now (memories .entry)) switch 0 ⌝ }
+{
+    let place = switch as usize;
+    if place < memories.len() {
+        return memories[place];
+    }
+    0
 }
 
 fn sum(memories: &[u32]) -> u64

@@ -1,0 +1,3 @@
+pub mod Lowest
+pub mod Tests
+pub mod Models
