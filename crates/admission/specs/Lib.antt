@@ -1,3 +1,4 @@
 pub mod Lowest
 pub mod Tests
+pub mod Rules
 pub mod Models

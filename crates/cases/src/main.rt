@@ -1,10 +1,14 @@
 // Runs a table of inputs. Each line names a program and gives its input in hexadecimal digits; printed is what the
 // program prints, each line behind the number of its case, or a dash where it prints nothing.
+ghost use mathlib.Core.Path.{_≡_};
+ghost use mathlib.Core.List.{[], _∷_};
 ghost use Prim.Native.Nat.{_<_};
+ghost use Rattle.std.specs.Vec.{made};
+ghost use Rattle.std.specs.Of.Vec.{vec-items};
 ghost use Rattle.std.specs.Options.{Cases as BySome};
+ghost use Rattle.cases.specs.Digits.{digitOf, spelled, nameOf};
 use records::stage::Program;
-use script::input::read_input;
-use script::session::Session;
+use script::print::whole_text;
 use std::alloc::Global;
 use std::error::AnyError;
 use std::io::BufRead;
@@ -35,13 +39,14 @@ fn run_case<W: Write>(heap: Global, number: u64, case: &str, out: &mut W) -> Res
         return Err("a case names no program".into());
     };
     let input = from_digits(heap, digits.as_bytes())?;
-    let mut lines = Vec::new(heap);
-    let mut session = Session::new(heap, program);
-    read_input(&mut session, input.as_slice(), &mut lines)?;
-    print_lines(number, lines.as_slice(), out)
+    let text = whole_text(heap, program, input.as_slice())?;
+    print_lines(number, text.as_str(), out)
 }
 
-fn program_named(name: &str) -> Option<Program> {
+// The program of this name.
+fn program_named(name: &str) -> Option<Program>
+    ensures { λ r. ⌜ BySome r (Unit {0}) (λ p. now (name .entry) ≡ nameOf p) ⌝ }
+{
     if name == "admit" {
         Some(Program::Admit)
     } else if name == "ports" {
@@ -53,8 +58,9 @@ fn program_named(name: &str) -> Option<Program> {
     }
 }
 
+// The number that a hexadecimal digit stands for.
 fn digit(code: u8) -> Option<u8>
-    ensures { λ r. ⌜ BySome r (Unit {0}) (λ d. d < 16) ⌝ }
+    ensures { λ r. ⌜ BySome r (Unit {0}) (λ d. (d < 16) × (digitOf d ≡ code)) ⌝ }
 {
     match code {
         b'0'..=b'9' => Some(code - b'0'),
@@ -63,25 +69,39 @@ fn digit(code: u8) -> Option<u8>
     }
 }
 
-fn from_digits(heap: Global, digits: &[u8]) -> Result<Vec<u8>, AnyError> {
+// The byte of two digits.
+fn byte_of(high: u8, low: u8) -> Option<u8>
+    ensures { λ r. ⌜ BySome r (Unit {0}) (λ b. spelled (b ∷ []) ≡ high ∷ low ∷ []) ⌝ }
+{
+    let Some(sixteens) = digit(high) else {
+        return None;
+    };
+    let Some(ones) = digit(low) else {
+        return None;
+    };
+    Some(sixteens * 16 + ones)
+}
+
+// The bytes that a row of digits spells.
+fn from_digits(heap: Global, digits: &[u8]) -> Result<Vec<u8>, AnyError>
+    ensures { λ r. ⌜ made r (λ v. spelled (vec-items v) ≡ now (digits .entry)) ⌝ }
+{
     let mut bytes = Vec::new(heap);
-    for pair in digits.chunks(2) {
-        let [first, second] = pair else {
-            return Err("a case has an odd digit".into());
-        };
-        let Some(high) = digit(*first) else {
+    let mut rest = digits;
+    while rest.len() >= 2 {
+        let Some(byte) = byte_of(rest[0], rest[1]) else {
             return Err("a case has a character that is no digit".into());
         };
-        let Some(low) = digit(*second) else {
-            return Err("a case has a character that is no digit".into());
-        };
-        bytes.push(high * 16 + low)?;
+        bytes.push(byte)?;
+        rest = &rest[2..];
+    }
+    if rest.len() > 0 {
+        return Err("a case has an odd digit".into());
     }
     Ok(bytes)
 }
 
-fn print_lines<W: Write>(number: u64, lines: &[u8], out: &mut W) -> Result<(), AnyError> {
-    let text = std::str::from_utf8(lines)?;
+fn print_lines<W: Write>(number: u64, text: &str, out: &mut W) -> Result<(), AnyError> {
     if text.is_empty() {
         writeln!(out, "{number}: -")?;
     }

@@ -1,2 +1,2 @@
-pub mod WholeInput
-pub mod StepLaws
+mod StepLaws
+mod OutputLaws

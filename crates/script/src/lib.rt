@@ -1,6 +1,8 @@
 // A program's input, record by record: what becomes of each, and the lines that say so.
-pub mod input;
+pub mod closing;
 pub mod line;
+pub mod print;
+pub mod printout;
 pub mod run;
 pub mod session;
 pub mod show;

@@ -1,6 +1,5 @@
 // A program as it is run: standard input whole, lines to standard output, and a message on standard error where it fails.
-use super::input::read_input;
-use super::session::Session;
+use super::printout::Printout;
 use records::stage::Program;
 use std::error::AnyError;
 use std::io::BufWriter;
@@ -29,9 +28,13 @@ fn name_of(program: Program) -> &'static str {
 fn read_and_print(rt: &LibcRuntime, program: Program) -> Result<(), AnyError> {
     let mut input = Vec::new(rt.alloc());
     rt.stdin().read_to_end(&mut input)?;
-    let mut session = Session::new(rt.alloc(), program);
     let mut out = BufWriter::new(rt.stdout());
-    read_input(&mut session, input.as_slice(), &mut out)?;
+    let mut next = Some(Printout::new(rt.alloc(), program, input.as_slice()));
+    while let Some(printout) = next {
+        let part = printout.part(rt.alloc())?;
+        out.write_all(part.text.as_bytes())?;
+        next = part.rest;
+    }
     out.flush()?;
     Ok(())
 }
