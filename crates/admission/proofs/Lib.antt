@@ -1,2 +1,3 @@
 pub mod LowestLaws
 pub mod LateLaws
+pub mod RuleLaws

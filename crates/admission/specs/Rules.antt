@@ -1,15 +1,15 @@
 -- The rules of admission, by net and flows alone. Assumes nothing.
 use mathlib.Core.Path.{_≡_}
-use mathlib.Core.Bool.{Bool, true, false, cond, not, _&&_}
+use mathlib.Core.Bool.{Bool, cond}
 use mathlib.Core.List.{List, [], _∷_, _++_, map}
 use Prim.Native.Nat.{ℕ, _≤_, _<_}
-use lib.Dec.{eqb, ltb}
+use lib.Dec.{ltb}
 use lib.ListN.{length, getD}
 use Rattle.std.specs.shelf.Lists.{All}
 use Rattle.std.specs.declared.option.Option.{Option}
 use Rattle.std.specs.declared.option.Option.the-variants.{Some, None}
 use Rattle.std.specs.Options.{mapped}
-use Rattle.flows.specs.Net.{NetModel, portAt}
+use Rattle.flows.specs.Net.{NetModel}
 use Rattle.flows.specs.Flow.{FlowModel, SoundFlow}
 use Rattle.promises.specs.Promises.{den, rates, due}
 use Rattle.promises.specs.Loads.{LoadModel}
@@ -43,14 +43,14 @@ pub record Fits (net : NetModel) (fs : List FlowModel) : Type 0 where
 pub data FailsFirst (net : NetModel) (gs : List NumberedModel) : Refusal → Type 0 where
   tooMany : 256 < length gs → FailsFirst net gs Crowded
   overPort : (p : ℕ) → length gs ≤ 256 → p < length (net .ports) → den < rates p (flowsOf gs) →
-    ((q : ℕ) → q < p → rates q (flowsOf gs) ≤ den) → FailsFirst net gs (Promised p)
+      ((q : ℕ) → q < p → rates q (flowsOf gs) ≤ den) → FailsFirst net gs (Promised p)
   lateFlow : (before after : List NumberedModel) (g : NumberedModel) → gs ≡ before ++ g ∷ after → length gs ≤ 256 →
-    ((p : ℕ) → p < length (net .ports) → rates p (flowsOf gs) ≤ den) → g .flow .deadline < due net (flowsOf gs) (g .flow) →
-    All (λ f. due net (flowsOf gs) f ≤ f .deadline) (flowsOf before) → FailsFirst net gs (Late (g .number))
+      ((p : ℕ) → p < length (net .ports) → rates p (flowsOf gs) ≤ den) → g .flow .deadline < due net (flowsOf gs) (g .flow) →
+      All (λ f. due net (flowsOf gs) f ≤ f .deadline) (flowsOf before) → FailsFirst net gs (Late (g .number))
   shortSwitch : (s : ℕ) → length gs ≤ 256 → ((p : ℕ) → p < length (net .ports) → rates p (flowsOf gs) ≤ den) →
-    All (λ f. due net (flowsOf gs) f ≤ f .deadline) (flowsOf gs) → s < length (net .memories) →
-    memoryOf net s < switchNeed net (flowsOf gs) s →
-    ((r : ℕ) → r < s → switchNeed net (flowsOf gs) r ≤ memoryOf net r) → FailsFirst net gs (Memory s)
+      All (λ f. due net (flowsOf gs) f ≤ f .deadline) (flowsOf gs) → s < length (net .memories) →
+      memoryOf net s < switchNeed net (flowsOf gs) s →
+      ((r : ℕ) → r < s → switchNeed net (flowsOf gs) r ≤ memoryOf net r) → FailsFirst net gs (Memory s)
 
 -- 4: a port is promised more than all of itself
 abbrev pub isOver : List FlowModel → ℕ → Bool

@@ -5,6 +5,7 @@ ghost use Rattle.flows.specs.Models.{netOf};
 ghost use Rattle.promises.specs.Models.{loadsModel, pairsModel};
 ghost use Rattle.admission.specs.Lowest.{LowestLaw};
 ghost use Rattle.admission.specs.Models.{numberedModel};
+ghost use Rattle.admission.specs.Rules.{AdmissionLaws};
 ghost use Rattle.admission.specs.Tests.{judged};
 use super::refusal::Numbered;
 use super::refusal::Refusal;
@@ -17,15 +18,16 @@ use promises::pairs::Pairs;
 
 // The first test that these flows fail together, by the sums that are kept for them; None where they pass all.
 pub fn judge(net: &Net, loads: &Loads, pairs: &Pairs, flows: &[Numbered]) -> Option<Refusal>
-    ensures { λ r. ⌜ r ≡ judged (netOf (now (net .entry))) (now (net .entry) .count) (now (net .entry) .switches) (loadsModel (now (loads .entry))) (pairsModel (now (pairs .entry))) (map numberedModel (now (flows .entry))) ⌝ }
+    ensures value { λ r. ⌜ r ≡ judged (netOf (now (net .entry))) (now (net .entry) .count) (now (net .entry) .switches) (loadsModel (now (loads .entry))) (pairsModel (now (pairs .entry))) (map numberedModel (now (flows .entry))) ⌝ }
+    ensures law { λ _. ⌜ LowestLaw × AdmissionLaws ⌝ }
 {
     first_refusal(net, loads, pairs, flows)
 }
 
-// The law says that the lowest of a range is the lowest.
+// The laws say that the lowest of a range is the lowest, and that these tests are the rules of admission.
 fn first_refusal(net: &Net, loads: &Loads, pairs: &Pairs, flows: &[Numbered]) -> Option<Refusal>
     ensures value { λ r. ⌜ r ≡ judged (netOf (now (net .entry))) (now (net .entry) .count) (now (net .entry) .switches) (loadsModel (now (loads .entry))) (pairsModel (now (pairs .entry))) (map numberedModel (now (flows .entry))) ⌝ }
-    ensures law { λ _. ⌜ LowestLaw ⌝ }
+    ensures law { λ _. ⌜ LowestLaw × AdmissionLaws ⌝ }
 {
     if flows.len() > 256 {
         return Some(Refusal::Crowded);

@@ -2,3 +2,4 @@ pub mod NetLaws
 pub mod NetBytes
 pub mod RoadLaws
 pub mod FlowLaws
+pub mod LeadLaws

@@ -3,3 +3,4 @@ pub mod Flow
 pub mod Models
 pub mod NetFormat
 pub mod FlowFormat
+pub mod Roads

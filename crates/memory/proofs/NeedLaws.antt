@@ -25,12 +25,12 @@ use Rattle.memory.specs.Needs.{ticksWithin, classNeed, classNeeds, regulatorNe
 use Rattle.memory.specs.Plans.{classPlan, regulatorPlan, portPlan, switchPlan, Rated, NeedsKept}
 
 -- the rates of class c over port p
-unfoldable ratesIn : ℕ → ℕ → List FlowModel → ℕ
+unfoldable pub ratesIn : ℕ → ℕ → List FlowModel → ℕ
 ratesIn p c [] = 0
 ratesIn p c (f ∷ fs) = cond (over p f && eqb (f .class) c) (f .rate) 0 + ratesIn p c fs
 
 -- those of lower classes and those of class c are among all
-rates-among : (p c : ℕ) (fs : List FlowModel) → All Classed fs → before p c fs + ratesIn p c fs ≤ before p 8 fs
+pub rates-among : (p c : ℕ) (fs : List FlowModel) → All Classed fs → before p c fs + ratesIn p c fs ≤ before p 8 fs
 unfolding before ratesIn
 rates-among p c [] low = omega arith
 rates-among p c (f ∷ fs) low =
@@ -59,7 +59,7 @@ goes-over p q (x ∷ y ∷ ys) e =
     ]
 
 -- where no flow of a class goes over a port, nothing comes into the regulators of that class behind it
-no-window : (p q c w : ℕ) (fs : List FlowModel) → All Rated fs → ratesIn p c fs ≡ 0 → windowed p q c w fs ≡ 0
+pub no-window : (p q c w : ℕ) (fs : List FlowModel) → All Rated fs → ratesIn p c fs ≡ 0 → windowed p q c w fs ≡ 0
 unfolding windowed ratesIn
 no-window p q c w [] rated none = refl
 no-window p q c w (f ∷ fs) rated none =
@@ -92,7 +92,7 @@ class-kept p q c fs low rated room small =
           ∙ sym (ap (λ n. (n + (den - 1)) / den) (no-window p q c (promise p c fs) fs rated none))
     ]
 
-sized-of : (p : ℕ) (t : LoadModel) (fs : List FlowModel) → Sized t → Sized (loadOf p t fs)
+pub sized-of : (p : ℕ) (t : LoadModel) (fs : List FlowModel) → Sized t → Sized (loadOf p t fs)
 unfolding loadOf
 sized-of p t [] sized = sized
 sized-of p t (f ∷ fs) sized = sized-of p (cond (over p f) (loadWith t f) t) fs (by (over p f))

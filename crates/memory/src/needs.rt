@@ -7,6 +7,7 @@ ghost use Rattle.flows.specs.Net.{portAt};
 ghost use Rattle.flows.specs.Models.{netOf};
 ghost use Rattle.promises.specs.Models.{loadModel, loadsModel, pairsModel};
 ghost use Rattle.memory.specs.Plans.{NeedsKept};
+ghost use Rattle.memory.specs.Growth.{GrowthLaws};
 ghost use Rattle.memory.specs.Needs.{ticksWithin, classNeed, classNeeds, regulatorNeeds, wholeNeed, switchNeeds};
 use flows::net::Net;
 use promises::load::Load;
@@ -16,9 +17,9 @@ use promises::pairs::Pairs;
 const DEN: u128 = 1_000_000;
 
 // What may wait in a regulator: bursts, and what the rates bring within a window, rounded up once. The law says that
-// the needs are those of the flows.
+// the needs are those of the flows, and that one flow more shortens none.
 fn ticks_within(bursts: u32, rates: u32, window: u64) -> u128
-    ensures law { λ _. ⌜ NeedsKept ⌝ }
+    ensures law { λ _. ⌜ NeedsKept × GrowthLaws ⌝ }
     ensures value { λ r. ⌜ r ≡ ticksWithin bursts rates window ⌝ }
     ensures small { λ r. ⌜ r < 2 ^ 97 ⌝ }
 {

@@ -23,6 +23,7 @@ use Rattle.flows.specs.FlowFormat.{passes}
 use Rattle.promises.proofs.TableLaws.{table-kept}
 use Rattle.promises.proofs.PairLaws.{pairs-kept}
 use Rattle.promises.proofs.WindowLaws.{window-kept}
+use Rattle.promises.proofs.FitLaws.{sums-fit, pairs-fit}
 use Rattle.promises.proofs.SumLaws.{sized-none, kept-bursts, kept-rates, kept-longest}
 
 -- an empty table
@@ -53,13 +54,13 @@ sums-kept p c fs low small room =
     above-nothing n = omega arith
 
 -- a quotient grows with what is divided, and as the divisor shrinks
-quotient-grows : (x y k m : ℕ) → x ≤ y → m ≤ k → 0 < m → x / k ≤ y / m
+pub quotient-grows : (x y k m : ℕ) → x ≤ y → m ≤ k → 0 < m → x / k ≤ y / m
 quotient-grows x y k m more less some =
     let whole = div-mul-le-self x k in
     let part = mul-le (x / k) m (x / k) k (omega arith) less in
     le-div (x / k) y m some (omega arith)
 
-more-bursts : (p c : ℕ) (fs gs : List FlowModel) (f : FlowModel) → bursts p c (fs ++ gs) ≤ bursts p c (fs ++ f ∷ gs)
+pub more-bursts : (p c : ℕ) (fs gs : List FlowModel) (f : FlowModel) → bursts p c (fs ++ gs) ≤ bursts p c (fs ++ f ∷ gs)
 unfolding bursts
 more-bursts p c [] gs f = omega arith
 more-bursts p c (g ∷ fs) gs f = let more = more-bursts p c fs gs f in omega arith
@@ -69,7 +70,7 @@ unfolding before
 more-before p c [] gs f = omega arith
 more-before p c (g ∷ fs) gs f = let more = more-before p c fs gs f in omega arith
 
-more-long : (p c : ℕ) (fs gs : List FlowModel) (f : FlowModel) → long p c (fs ++ gs) ≤ long p c (fs ++ f ∷ gs)
+pub more-long : (p c : ℕ) (fs gs : List FlowModel) (f : FlowModel) → long p c (fs ++ gs) ≤ long p c (fs ++ f ∷ gs)
 unfolding long
 more-long p c [] gs f = omega arith
 more-long p c (g ∷ fs) gs f = let more = more-long p c fs gs f in omega arith
@@ -142,4 +143,4 @@ unfolding bursts before long dueOver goes windowed passes
 worked-examples = (refl, (refl, (refl, (refl, (refl, (refl, (refl, (refl, (refl, (refl, (refl, tt)))))))))))
 
 pub promise-laws : PromiseLaws
-promise-laws = record { kept = sums-kept; table = table-kept; dues = dues-kept; last = last-is-due; pairs = pairs-kept; window = window-kept; grows = never-shorter; covers = port-covers; examples = worked-examples }
+promise-laws = record { kept = sums-kept; table = table-kept; dues = dues-kept; last = last-is-due; pairs = pairs-kept; sumsFit = sums-fit; pairsFit = pairs-fit; window = window-kept; grows = never-shorter; covers = port-covers; examples = worked-examples }

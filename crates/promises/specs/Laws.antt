@@ -19,6 +19,10 @@ Classed f = f .class ≤ 7
 abbrev pub Holding : FlowModel → Type 0
 Holding f = f .longest ≤ f .burst
 
+-- a burst and a rate are no greater than they may be
+abbrev pub Bounded : FlowModel → Type 0
+Bounded f = (f .burst ≤ 65535) × (f .rate ≤ den)
+
 -- the sums that are kept give the promise of the definition
 abbrev pub SumsKept : Type 0
 SumsKept =
@@ -62,6 +66,19 @@ PairsKept =
     (tables us : List (List LoadModel)) (fs : List FlowModel) (f : FlowModel) → Squared tables → Once (f .road) → All (λ p. p < 64) (f .road) →
     PairsOf tables fs → pairsWith f (f .road) tables ≡ Some us → Squared us × PairsOf us (fs ++ f ∷ [])
 
+-- with at most 255 flows asked for, no sum at a port passes 32 bits by a flow more
+abbrev pub SumsFit : Type 0
+SumsFit =
+    (ts : List LoadModel) (fs : List FlowModel) (f : FlowModel) → All Bounded fs → Bounded f → Once (f .road) → All (λ p. p < 64) (f .road) →
+    length fs ≤ 255 → Kept ts fs → (us : List LoadModel) × (loadsWith f (f .road) ts ≡ Some us)
+
+-- nor does one between two ports
+abbrev pub PairsFit : Type 0
+PairsFit =
+    (tables : List (List LoadModel)) (fs : List FlowModel) (f : FlowModel) → All Bounded fs → Bounded f → Once (f .road) →
+    All (λ p. p < 64) (f .road) → length fs ≤ 255 → PairsOf tables fs →
+    (us : List (List LoadModel)) × (pairsWith f (f .road) tables ≡ Some us)
+
 -- what may come into a regulator within a window, from the sums that are kept
 abbrev pub WindowKept : Type 0
 WindowKept =
@@ -85,6 +102,8 @@ pub record PromiseLaws : Type 0 where
   pub dues : DuesKept
   pub last : LastIsDue
   pub pairs : PairsKept
+  pub sumsFit : SumsFit
+  pub pairsFit : PairsFit
   pub window : WindowKept
   pub grows : NeverShorter
   pub covers : PortCovers
