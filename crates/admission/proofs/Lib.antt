@@ -1,3 +1,5 @@
 pub mod LowestLaws
 pub mod LateLaws
 pub mod RuleLaws
+pub mod KeepLaws
+pub mod PlanLaws

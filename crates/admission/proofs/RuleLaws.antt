@@ -17,7 +17,7 @@ use Rattle.std.proofs.shelf.Elements.{all-weaker}
 use Rattle.std.proofs.shelf.Lists.{take-all}
 use Rattle.std.proofs.shelf.Tests.{cases-lt, ltb-true, ltb-false, le-ltb, eq-eqb, ne-eqb, or-from, or-left, or-right, and-from}
 use Rattle.flows.specs.Net.{NetModel}
-use Rattle.flows.specs.Flow.{FlowModel, SoundFlow}
+use Rattle.flows.specs.Flow.{FlowModel}
 use Rattle.flows.specs.FlowFormat.{passes}
 use Rattle.promises.specs.Promises.{den, over, before, rates, dues, dueOver, due}
 use Rattle.promises.specs.Loads.{LoadModel, noLoad, loadOf, total}
@@ -30,7 +30,7 @@ use Rattle.admission.specs.declared.refusal.Refusal.{Refusal}
 use Rattle.admission.specs.declared.refusal.Refusal.the-variants.{Crowded, Promised, Late, Memory}
 use Rattle.admission.specs.Lowest.{lowest}
 use Rattle.admission.specs.Tests.{NumberedModel, overPromised, lateBy, isLate, firstLate, isShort, firstOf, crowded}
-use Rattle.admission.specs.Rules.{flowsOf, switchNeed, memoryOf, Fits, FailsFirst, tooMany, overPort, lateFlow, shortSwitch, isOver, firstLateOf, isBare, refusalOf, JudgedByRules, AdmissionLaws}
+use Rattle.admission.specs.Rules.{Routed, flowsOf, switchNeed, memoryOf, Fits, FailsFirst, tooMany, overPort, lateFlow, shortSwitch, isOver, firstLateOf, isBare, refusalOf, JudgedByRules, AdmissionLaws}
 use Rattle.admission.proofs.LowestLaws.{lowest-law}
 
 -- what follows of each element from two facts of it
@@ -77,7 +77,7 @@ passes-none n p [] beyond known = refl
 passes-none n p (q ∷ ps) beyond known =
     or-from (eqb p q) (passes p ps) (ne-eqb p q (λ e. omega (arith, known .0))) (passes-none n p ps beyond (known .1))
 
-rates-none : (net : NetModel) (p : ℕ) (fs : List FlowModel) → length (net .ports) ≤ p → All (SoundFlow net) fs → rates p fs ≡ 0
+rates-none : (net : NetModel) (p : ℕ) (fs : List FlowModel) → length (net .ports) ≤ p → All (Routed net) fs → rates p fs ≡ 0
 unfolding before
 rates-none net p [] beyond sound = refl
 rates-none net p (f ∷ fs) beyond sound =
@@ -115,12 +115,12 @@ last-due net fs c (p ∷ ps) some =
 
 -- by tables that are kept for flows of a net
 module _ (net : NetModel) (loads : List LoadModel) (pairs : List (List LoadModel)) (fs : List FlowModel) (few : length (net .ports) ≤ 64)
-    (sound : All (SoundFlow net) fs) (kept : Kept loads fs) (between : PairsOf pairs fs) where
+    (sound : All (Routed net) fs) (kept : Kept loads fs) (between : PairsOf pairs fs) where
   low : All Classed fs
-  low = all-weaker (SoundFlow net) Classed (λ f h. h .ranges .classLow) fs sound
+  low = all-weaker (Routed net) Classed (λ f h. h .classLow) fs sound
 
   rated : All Rated fs
-  rated = all-weaker (SoundFlow net) Rated (λ f h. h .ranges .rateSome) fs sound
+  rated = all-weaker (Routed net) Rated (λ f h. h .rateSome) fs sound
 
   -- 4: by the sums and by the flows
   over-same : (p : ℕ) → p < length (net .ports) → overPromised loads p ≡ isOver fs p
@@ -136,21 +136,21 @@ module _ (net : NetModel) (loads : List LoadModel) (pairs : List (List LoadModel
 
   module _ (room : (p : ℕ) → rates p fs ≤ den) where
     -- 5
-    late-same : (f : FlowModel) → SoundFlow net f → Among fs f → isLate net loads f ≡ ltb (f .deadline) (due net fs f)
+    late-same : (f : FlowModel) → Routed net f → Among fs f → isLate net loads f ≡ ltb (f .deadline) (due net fs f)
     late-same f is among =
         let c = f .class in
         let known : All (λ p. (p < 64) × (before p c fs < den)) (f .road) =
         all-both (λ p. p < length (net .ports)) (λ p. passes p (f .road) ≡ true) (λ p. (p < 64) × (before p c fs < den))
         (λ p port on. (omega arith, promises p on)) (f .road) (is .route .known) (road-passes (f .road)) in
-        ap (lateBy (f .deadline) (length (f .road))) (dues-kept net loads fs c 0 (f .road) kept low (is .ranges .classLow) known)
-        ∙ ap (ltb (f .deadline)) (last-due net fs c (f .road) (is .ranges .roadSome))
+        ap (lateBy (f .deadline) (length (f .road))) (dues-kept net loads fs c 0 (f .road) kept low (is .classLow) known)
+        ∙ ap (ltb (f .deadline)) (last-due net fs c (f .road) (is .roadSome))
       where
         promises : (p : ℕ) → passes p (f .road) ≡ true → before p (f .class) fs < den
         promises p on =
             let own = among p on in
             let all = rates-among p (f .class) fs low in
             let most = room p in
-            let some = is .ranges .rateSome in
+            let some = is .rateSome in
             omega arith
 
     -- 6
@@ -188,7 +188,7 @@ judged-by-rules net loads pairs gs few sound kept between =
     others room =
         first-same Late _ _ _ _
         (first-late-same net loads fs gs
-        (all-both (SoundFlow net) (Among fs) (λ f. isLate net loads f ≡ ltb (f .deadline) (due net fs f))
+        (all-both (Routed net) (Among fs) (λ f. isLate net loads f ≡ ltb (f .deadline) (due net fs f))
         (λ f is among. late-same net loads pairs fs few sound kept between room f is among) fs sound (each-among fs)))
         (λ none. ap (mapped Memory)
         (lowest-same (isShort net loads pairs (length (net .ports))) (isBare net fs) (length (net .memories)) 0

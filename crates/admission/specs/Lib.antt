@@ -1,4 +1,6 @@
 pub mod Lowest
 pub mod Tests
 pub mod Rules
+pub mod Sound
 pub mod Models
+pub mod Plans

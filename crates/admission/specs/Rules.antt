@@ -10,7 +10,7 @@ use Rattle.std.specs.declared.option.Option.{Option}
 use Rattle.std.specs.declared.option.Option.the-variants.{Some, None}
 use Rattle.std.specs.Options.{mapped}
 use Rattle.flows.specs.Net.{NetModel}
-use Rattle.flows.specs.Flow.{FlowModel, SoundFlow}
+use Rattle.flows.specs.Flow.{FlowModel, IsRoad}
 use Rattle.promises.specs.Promises.{den, rates, due}
 use Rattle.promises.specs.Loads.{LoadModel}
 use Rattle.promises.specs.Laws.{Kept, PairsOf}
@@ -83,11 +83,18 @@ Exact =
 abbrev pub NamesFirst : Type 0
 NamesFirst = (net : NetModel) (gs : List NumberedModel) (r : Refusal) → refusalOf net gs ≡ Some r → FailsFirst net gs r
 
+-- what the tests take for granted of a flow: a class, a rate, and a road through the net
+pub record Routed (net : NetModel) (f : FlowModel) : Type 0 where
+  pub classLow : f .class ≤ 7
+  pub rateSome : 1 ≤ f .rate
+  pub roadSome : 1 ≤ length (f .road)
+  pub route : IsRoad net (f .road)
+
 -- the tests by the sums that are kept are the tests by the flows
 abbrev pub JudgedByRules : Type 0
 JudgedByRules =
     (net : NetModel) (loads : List LoadModel) (pairs : List (List LoadModel)) (gs : List NumberedModel) →
-    length (net .ports) ≤ 64 → All (SoundFlow net) (flowsOf gs) → Kept loads (flowsOf gs) → PairsOf pairs (flowsOf gs) →
+    length (net .ports) ≤ 64 → All (Routed net) (flowsOf gs) → Kept loads (flowsOf gs) → PairsOf pairs (flowsOf gs) →
     judged net (length (net .ports)) (length (net .memories)) loads pairs gs ≡ refusalOf net gs
 
 pub record AdmissionLaws : Type 0 where

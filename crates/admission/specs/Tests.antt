@@ -13,7 +13,7 @@ use Rattle.promises.specs.Promises.{den}
 use Rattle.promises.specs.Loads.{LoadModel, noLoad, total, loadsDues}
 use Rattle.memory.specs.Needs.{switchNeeds}
 use Rattle.admission.specs.declared.refusal.Refusal.{Refusal}
-use Rattle.admission.specs.declared.refusal.Refusal.the-variants.{Crowded, Promised, Late, Memory}
+use Rattle.admission.specs.declared.refusal.Refusal.the-variants.{Road, Crowded, Promised, Late, Memory}
 use Rattle.admission.specs.Lowest.{lowest}
 
 -- a flow and its number
@@ -23,6 +23,7 @@ pub record NumberedModel : Type 0 where
 
 -- the number of each refusal
 abbrev pub refusalNumber : Refusal → ℕ
+refusalNumber Road = 3
 refusalNumber Crowded = 7
 refusalNumber (Promised port) = 4
 refusalNumber (Late flow) = 5

@@ -7,9 +7,11 @@ pub struct Numbered {
     pub flow: Flow,
 }
 
-// The first test that flows fail together.
+// The first test that a flow fails, alone or with those admitted before it.
 #[derive(Clone, Copy)]
 pub enum Refusal {
+    // 3: no road through this net
+    Road,
     // 7: more than 256 flows
     Crowded,
     // 4: a port promised more than all of itself: the lowest such port
@@ -18,4 +20,11 @@ pub enum Refusal {
     Late { flow: u64 },
     // 6: memory: the lowest switch that has not enough
     Memory { switch: u8 },
+}
+
+// Why a flow is not admitted.
+#[derive(Clone, Copy)]
+pub enum NotAdmitted {
+    Refused { refusal: Refusal },
+    OutOfMemory,
 }

@@ -21,4 +21,5 @@ pub struct Flow {
     ghost hops_few: { hops ≤ 16 },
     ghost ports_listed: { hops ≤ length road },
     ghost ports_known: { (k : ℕ) → k < hops → getD road k 0 < 64 },
+    ghost burst_short: { burst ≤ 65535 },
 }

@@ -78,7 +78,7 @@ ghost-result c =
                 c .in-Continue-hops .ensures tt .inside .0,
                 (
                   c .in-Continue-hops .ensures tt .inside .1,
-                  (places .0, (places .1, tt)),
+                  (places .0, (places .1, (c .in-Continue-burst .ensures tt .inside .1, tt))),
                 ),
               ),
             ),

@@ -1,0 +1,80 @@
+// Admission of flows, one after the other.
+ghost use mathlib.Core.Path.{_≡_};
+ghost use Rattle.flows.specs.Models.{netOf, flowOf};
+ghost use Rattle.flows.specs.Roads.{leads};
+ghost use Rattle.admission.specs.Plans.{planOf, emptyPlan, Answered};
+ghost use Rattle.admission.specs.Models.{numberedModel};
+use super::judge::judge;
+use super::plan::Plan;
+use super::refusal::NotAdmitted;
+use super::refusal::Numbered;
+use super::refusal::Refusal;
+use flows::flow::Flow;
+use flows::net::Net;
+use promises::loads::Loads;
+use promises::pairs::Pairs;
+use std::alloc::Global;
+
+impl Plan {
+    // A net to which no flow is admitted.
+    pub fn new(heap: Global, net: Net) -> Self
+        ensures { λ r. ⌜ planOf r ≡ emptyPlan (netOf net) ⌝ }
+    {
+        Plan {
+            net,
+            flows: Vec::new(heap),
+            loads: Loads::none(),
+            pairs: Pairs::none(),
+        }
+    }
+
+    // One flow more, if all that is promised then holds. A refusal changes nothing.
+    pub fn admit(&mut self, new: Numbered) -> Result<(), NotAdmitted>
+        ensures { λ r. ⌜ Answered (planOf (now (self .entry))) (numberedModel new) (planOf (now (self .exit))) r ⌝ }
+    {
+        self.try_admit(new)
+    }
+
+    fn try_admit(&mut self, new: Numbered) -> Result<(), NotAdmitted>
+        ensures { λ r. ⌜ Answered (planOf (now (self .entry))) (numberedModel new) (planOf (now (self .exit))) r ⌝ }
+    {
+        if !is_routed(&self.net, &new.flow) {
+            return Err(NotAdmitted::Refused {
+                refusal: Refusal::Road,
+            });
+        }
+        if self.flows.len() >= 256 {
+            return Err(NotAdmitted::Refused {
+                refusal: Refusal::Crowded,
+            });
+        }
+        let Some(loads) = self.loads.with(&new.flow) else {
+            return Err(NotAdmitted::Refused {
+                refusal: Refusal::Crowded,
+            });
+        };
+        let Some(pairs) = self.pairs.with(&new.flow) else {
+            return Err(NotAdmitted::Refused {
+                refusal: Refusal::Crowded,
+            });
+        };
+        let Ok(()) = self.flows.push(new) else {
+            return Err(NotAdmitted::OutOfMemory);
+        };
+        if let Some(refusal) = judge(&self.net, &loads, &pairs, self.flows.as_slice()) {
+            self.flows.pop();
+            return Err(NotAdmitted::Refused { refusal });
+        }
+        self.loads = loads;
+        self.pairs = pairs;
+        Ok(())
+    }
+}
+
+// Whether the road of a flow leads through a net.
+fn is_routed(net: &Net, flow: &Flow) -> bool
+    ensures { λ r. ⌜ r ≡ leads (netOf (now (net .entry))) (flowOf (now (flow .entry)) .road) ⌝ }
+{
+    let hops = flow.hops as usize;
+    net.has_road(&flow.road[0..hops])
+}
