@@ -1,5 +1,6 @@
 // Admission of flows, one after the other.
 ghost use mathlib.Core.Path.{_≡_};
+ghost use Rattle.std.specs.Vec.{made};
 ghost use Rattle.flows.specs.Models.{netOf, flowOf};
 ghost use Rattle.flows.specs.Roads.{leads};
 ghost use Rattle.admission.specs.Plans.{planOf, emptyPlan, Answered};
@@ -13,19 +14,27 @@ use flows::flow::Flow;
 use flows::net::Net;
 use promises::loads::Loads;
 use promises::pairs::Pairs;
+use std::alloc::AllocError;
 use std::alloc::Global;
 
 impl Plan {
     // A net to which no flow is admitted.
-    pub fn new(heap: Global, net: Net) -> Self
-        ensures { λ r. ⌜ planOf r ≡ emptyPlan (netOf net) ⌝ }
+    pub fn new(heap: Global, net: Net) -> Result<Self, AllocError>
+        ensures { λ r. ⌜ made r (λ p. planOf p ≡ emptyPlan (netOf net)) ⌝ }
     {
-        Plan {
+        Plan::empty(heap, net)
+    }
+
+    fn empty(heap: Global, net: Net) -> Result<Self, AllocError>
+        ensures { λ r. ⌜ made r (λ p. planOf p ≡ emptyPlan (netOf net)) ⌝ }
+    {
+        let pairs = Box::new(heap, Pairs::none())?;
+        Ok(Plan {
             net,
             flows: Vec::new(heap),
             loads: Loads::none(),
-            pairs: Pairs::none(),
-        }
+            pairs,
+        })
     }
 
     // One flow more, if all that is promised then holds. A refusal changes nothing.
@@ -53,7 +62,7 @@ impl Plan {
                 refusal: Refusal::Crowded,
             });
         };
-        let Some(pairs) = self.pairs.with(&new.flow) else {
+        let Some(pairs) = self.pairs.as_ref().with(&new.flow) else {
             return Err(NotAdmitted::Refused {
                 refusal: Refusal::Crowded,
             });
@@ -66,7 +75,7 @@ impl Plan {
             return Err(NotAdmitted::Refused { refusal });
         }
         self.loads = loads;
-        self.pairs = pairs;
+        *self.pairs = pairs;
         Ok(())
     }
 }

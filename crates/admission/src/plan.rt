@@ -1,6 +1,7 @@
 ghost use mathlib.Core.Path.{_≡_};
 ghost use mathlib.Core.Bool.{true};
 ghost use mathlib.Core.List.{map};
+ghost use Rattle.std.specs.Of.Box.{box-value};
 ghost use Rattle.std.specs.Of.Vec.{vec-items};
 ghost use Rattle.flows.specs.Models.{netOf};
 ghost use Rattle.promises.specs.Models.{loadsModel, pairsModel};
@@ -19,9 +20,9 @@ pub struct Plan {
     pub net: Net,
     pub flows: Vec<Numbered>,
     pub loads: Loads,
-    pub pairs: Pairs,
+    pub pairs: Box<Pairs>,
     ghost loads_kept: { keepsLoads (loadsModel loads) (flowsOf (map numberedModel (vec-items flows))) ≡ true },
-    ghost pairs_kept: { keepsPairs (pairsModel pairs) (flowsOf (map numberedModel (vec-items flows))) ≡ true },
+    ghost pairs_kept: { keepsPairs (pairsModel (box-value pairs)) (flowsOf (map numberedModel (vec-items flows))) ≡ true },
     ghost on_roads: { allRoads (netOf net) (flowsOf (map numberedModel (vec-items flows))) ≡ true },
     ghost fits: { passesAll (netOf net) (map numberedModel (vec-items flows)) ≡ true },
 }

@@ -2,8 +2,11 @@ use mathlib.Core.Path.{_≡_, refl, sym, ap, subst, _∙_}
 use mathlib.Core.List.{List, map, _∷_, [], _++_}
 use native.Mathlib.Omega.{arith}
 use lib.ListN.{length, length-map}
+use Rattle.std.specs.Of.Box.{box-value}
 use Rattle.std.specs.Of.Vec.{vec-items, vec-len}
 use Rattle.flows.specs.Models.{netOf, flowOf}
+use Rattle.promises.specs.declared.pairs.Pairs.{Pairs}
+use Rattle.promises.specs.Loads.{pairsWith}
 use Rattle.promises.specs.Models.{loadsModel, pairsModel}
 use Rattle.admission.specs.declared.refusal.Numbered.{Numbered}
 use Rattle.admission.specs.Models.{numberedModel}
@@ -14,6 +17,10 @@ use Rattle.admission.specs.Plans.{PlanModel, planOf}
 use Rattle.admission.proofs.KeepLaws.{loads-kept, pairs-kept}
 use Rattle.admission.proofs.PlanLaws.{crowded-with, sums-told, pairs-told, sums-more, pairs-more, roads-more, judged-more, pushed, popped, tested-on}
 use Rattle.admission.proofs.plan.Plan.try_admit.Needs as need
+
+between-is : (n : Numbered) {p q : Pairs} → p ≡ q →
+    pairsWith (flowOf (n .flow)) (flowOf (n .flow) .road) (pairsModel p) ≡ pairsWith (flowOf (n .flow)) (flowOf (n .flow) .road) (pairsModel q)
+between-is n = ap (λ p. pairsWith (flowOf (n .flow)) (flowOf (n .flow) .road) (pairsModel p))
 
 pub returns-then-len-ge256 : need.returns-then-len-ge256
 returns-then-len-ge256 c =
@@ -28,7 +35,7 @@ returns-in-rest c =
     let plan = c .args .self .now in
     let ns = vec-items (plan .flows) in
     let size : c .len .result ≡ length (map numberedModel ns) = c .len .ensures ∙ plan .flows .ok .0 ∙ sym (length-map ns numberedModel) in
-    absurd (sums-told (plan .net) ns (c .args .new) (plan .loads) (plan .pairs) (plan .«loads_kept») (plan .«pairs_kept») (plan .«on_roads»)
+    absurd (sums-told (plan .net) ns (c .args .new) (plan .loads) (box-value (plan .pairs)) (plan .«loads_kept») (plan .«pairs_kept») (plan .«on_roads»)
     (sym (c .if-not-is-routed .ensures tt)) (omega (arith, c .if-len-ge256 .left)) (c .in-rest .ensures tt))
 
 pub returns-in-rest-with : need.returns-in-rest-with
@@ -36,8 +43,8 @@ returns-in-rest-with c =
     let plan = c .args .self .now in
     let ns = vec-items (plan .flows) in
     let size : c .len .result ≡ length (map numberedModel ns) = c .len .ensures ∙ plan .flows .ok .0 ∙ sym (length-map ns numberedModel) in
-    absurd (pairs-told (plan .net) ns (c .args .new) (plan .loads) (plan .pairs) (plan .«loads_kept») (plan .«pairs_kept») (plan .«on_roads»)
-    (sym (c .if-not-is-routed .ensures tt)) (omega (arith, c .if-len-ge256 .left)) (c .in-rest-with .ensures tt))
+    absurd (pairs-told (plan .net) ns (c .args .new) (plan .loads) (box-value (plan .pairs)) (plan .«loads_kept») (plan .«pairs_kept») (plan .«on_roads»)
+    (sym (c .if-not-is-routed .ensures tt)) (omega (arith, c .if-len-ge256 .left)) (c .in-rest-with .ensures tt ∙ between-is (c .args .new) (c .as-ref .ensures)))
 
 pub ghost-self-in-Some-judge : need.ghost-self-in-Some-judge
 ghost-self-in-Some-judge c =
@@ -45,7 +52,7 @@ ghost-self-in-Some-judge c =
     let back = c .pop .ensures .places .1 ∙ popped (vec-items (plan .flows)) (vec-items (c .push .last .self)) (c .args .new) _ (c .in-Ok .ensures tt .items) (c .push .last .self .ok .0) in (
       ap (λ ns. keepsLoads (loadsModel (plan .loads)) (flowsOf (map numberedModel ns))) back ∙ plan .«loads_kept»,
       (
-        ap (λ ns. keepsPairs (pairsModel (plan .pairs)) (flowsOf (map numberedModel ns))) back ∙ plan .«pairs_kept»,
+        ap (λ ns. keepsPairs (pairsModel (box-value (plan .pairs))) (flowsOf (map numberedModel ns))) back ∙ plan .«pairs_kept»,
         (
           ap (λ ns. allRoads (netOf (plan .net)) (flowsOf (map numberedModel ns))) back ∙ plan .«on_roads»,
           (ap (λ ns. passesAll (netOf (plan .net)) (map numberedModel ns)) back ∙ plan .fits, tt),
@@ -62,8 +69,8 @@ returns-in-Some-judge c =
     let all : map numberedModel (c .as-slice .result .now) ≡ map numberedModel ns ++ numberedModel (c .args .new) ∷ [] =
         ap (map numberedModel) (c .as-slice .ensures .value) ∙ pushed ns (vec-items (c .push .last .self)) (c .args .new) (c .in-Ok .ensures tt .items) in
     (tested-on (planOf plan) (numberedModel (c .args .new)) leading
-     ∙ sym (judged-more (plan .net) ns (c .args .new) (plan .loads) (plan .pairs) (plan .«loads_kept») (plan .«pairs_kept») (plan .«on_roads») leading
-       (c .in-Some .loads) (c .in-Some-with .pairs) (c .in-Some .ensures tt) (c .in-Some-with .ensures tt))
+     ∙ sym (judged-more (plan .net) ns (c .args .new) (plan .loads) (box-value (plan .pairs)) (plan .«loads_kept») (plan .«pairs_kept») (plan .«on_roads») leading
+       (c .in-Some .loads) (c .in-Some-with .pairs) (c .in-Some .ensures tt) (c .in-Some-with .ensures tt ∙ between-is (c .args .new) (c .as-ref .ensures)))
      ∙ ap (judged (netOf (plan .net)) (plan .net .count) (plan .net .switches) (loadsModel (c .in-Some .loads)) (pairsModel (c .in-Some-with .pairs))) (sym all)
      ∙ sym (c .in-Some-judge .ensures tt .value),
      ap (λ xs. record { net = netOf (plan .net); flows = map numberedModel xs }) back)
@@ -77,18 +84,18 @@ ghost-self-2 c =
     let all : map numberedModel (c .as-slice .result .now) ≡ map numberedModel ns ++ numberedModel (c .args .new) ∷ [] =
         ap (map numberedModel) (c .as-slice .ensures .value) ∙ more in
     let passed =
-        sym (judged-more (plan .net) ns (c .args .new) (plan .loads) (plan .pairs) (plan .«loads_kept») (plan .«pairs_kept») (plan .«on_roads») leading
-         (c .in-Some .loads) (c .in-Some-with .pairs) (c .in-Some .ensures tt) (c .in-Some-with .ensures tt))
+        sym (judged-more (plan .net) ns (c .args .new) (plan .loads) (box-value (plan .pairs)) (plan .«loads_kept») (plan .«pairs_kept») (plan .«on_roads») leading
+         (c .in-Some .loads) (c .in-Some-with .pairs) (c .in-Some .ensures tt) (c .in-Some-with .ensures tt ∙ between-is (c .args .new) (c .as-ref .ensures)))
         ∙ ap (judged (netOf (plan .net)) (plan .net .count) (plan .net .switches) (loadsModel (c .in-Some .loads)) (pairsModel (c .in-Some-with .pairs))) (sym all)
         ∙ sym (c .in-rest-judge .ensures tt .value) in (
       ap (λ gs. keepsLoads (loadsModel (c .in-Some .loads)) (flowsOf gs)) more
-      ∙ loads-kept _ _ (sums-more (plan .net) ns (c .args .new) (plan .loads) (plan .pairs) (plan .«loads_kept») (plan .«pairs_kept») (plan .«on_roads») leading (c .in-Some .loads) (c .in-Some .ensures tt)),
+      ∙ loads-kept _ _ (sums-more (plan .net) ns (c .args .new) (plan .loads) (box-value (plan .pairs)) (plan .«loads_kept») (plan .«pairs_kept») (plan .«on_roads») leading (c .in-Some .loads) (c .in-Some .ensures tt)),
       (
         ap (λ gs. keepsPairs (pairsModel (c .in-Some-with .pairs)) (flowsOf gs)) more
-        ∙ pairs-kept _ _ (pairs-more (plan .net) ns (c .args .new) (plan .loads) (plan .pairs) (plan .«loads_kept») (plan .«pairs_kept») (plan .«on_roads») leading (c .in-Some-with .pairs) (c .in-Some-with .ensures tt)),
+        ∙ pairs-kept _ _ (pairs-more (plan .net) ns (c .args .new) (plan .loads) (box-value (plan .pairs)) (plan .«loads_kept») (plan .«pairs_kept») (plan .«on_roads») leading (c .in-Some-with .pairs) (c .in-Some-with .ensures tt ∙ between-is (c .args .new) (c .as-ref .ensures))),
         (
           ap (λ gs. allRoads (netOf (plan .net)) (flowsOf gs)) more
-          ∙ roads-more (plan .net) ns (c .args .new) (plan .loads) (plan .pairs) (plan .«loads_kept») (plan .«pairs_kept») (plan .«on_roads») leading,
+          ∙ roads-more (plan .net) ns (c .args .new) (plan .loads) (box-value (plan .pairs)) (plan .«loads_kept») (plan .«pairs_kept») (plan .«on_roads») leading,
           (ap (passesAll (netOf (plan .net))) more ∙ ap isNone passed, tt),
         ),
       ),
@@ -103,8 +110,8 @@ returns c =
     let all : map numberedModel (c .as-slice .result .now) ≡ map numberedModel ns ++ numberedModel (c .args .new) ∷ [] =
         ap (map numberedModel) (c .as-slice .ensures .value) ∙ more in
     (tested-on (planOf plan) (numberedModel (c .args .new)) leading
-     ∙ sym (judged-more (plan .net) ns (c .args .new) (plan .loads) (plan .pairs) (plan .«loads_kept») (plan .«pairs_kept») (plan .«on_roads») leading
-       (c .in-Some .loads) (c .in-Some-with .pairs) (c .in-Some .ensures tt) (c .in-Some-with .ensures tt))
+     ∙ sym (judged-more (plan .net) ns (c .args .new) (plan .loads) (box-value (plan .pairs)) (plan .«loads_kept») (plan .«pairs_kept») (plan .«on_roads») leading
+       (c .in-Some .loads) (c .in-Some-with .pairs) (c .in-Some .ensures tt) (c .in-Some-with .ensures tt ∙ between-is (c .args .new) (c .as-ref .ensures)))
      ∙ ap (judged (netOf (plan .net)) (plan .net .count) (plan .net .switches) (loadsModel (c .in-Some .loads)) (pairsModel (c .in-Some-with .pairs))) (sym all)
      ∙ sym (c .in-rest-judge .ensures tt .value),
      ap (λ gs. record { net = netOf (plan .net); flows = gs }) more)
