@@ -85,7 +85,7 @@ ports-count net = length-take-le (net .count) (net .ports) (net .«ports_listed�
 pub switches-count : (net : Net) → length (netOf net .memories) ≡ net .switches
 switches-count net = length-take-le (net .switches) (net .memory) (net .«memory_listed»)
 
-ports-few : (net : Net) → length (netOf net .ports) ≤ 64
+pub ports-few : (net : Net) → length (netOf net .ports) ≤ 64
 ports-few net = let e = ports-count net in let few = net .«ports_few» in omega arith
 
 -- what every flow is
@@ -107,7 +107,7 @@ all-bounded : (ns : List Numbered) → All Bounded (flowsOf (map numberedModel n
 all-bounded [] = tt
 all-bounded (n ∷ ns) = (flow-bounded (n .flow), all-bounded ns)
 
-all-routed : (net : NetModel) (ns : List Numbered) → allRoads net (flowsOf (map numberedModel ns)) ≡ true →
+pub all-routed : (net : NetModel) (ns : List Numbered) → allRoads net (flowsOf (map numberedModel ns)) ≡ true →
     All (Routed net) (flowsOf (map numberedModel ns))
 all-routed net ns is = go ns (keep.roads-each net (flowsOf (map numberedModel ns)) is)
   where

@@ -20,7 +20,7 @@ use Rattle.flows.specs.Net.{NetModel}
 use Rattle.flows.specs.Flow.{FlowModel}
 use Rattle.flows.specs.FlowFormat.{passes}
 use Rattle.promises.specs.Promises.{den, over, before, rates, dues, dueOver, due}
-use Rattle.promises.specs.Loads.{LoadModel, noLoad, loadOf, total}
+use Rattle.promises.specs.Loads.{LoadModel, noLoad, loadOf, total, loadsDues}
 use Rattle.promises.specs.Laws.{Classed, Kept, PairsOf}
 use Rattle.promises.proofs.SumLaws.{sized-none, kept-rates}
 use Rattle.promises.proofs.PromiseLaws.{total-none, dues-kept, last-is-due}
@@ -30,11 +30,13 @@ use Rattle.admission.specs.declared.refusal.Refusal.{Refusal}
 use Rattle.admission.specs.declared.refusal.Refusal.the-variants.{Crowded, Promised, Late, Memory}
 use Rattle.admission.specs.Lowest.{lowest}
 use Rattle.admission.specs.Tests.{NumberedModel, overPromised, lateBy, isLate, firstLate, isShort, firstOf, crowded}
-use Rattle.admission.specs.Rules.{Routed, flowsOf, switchNeed, memoryOf, Fits, FailsFirst, tooMany, overPort, lateFlow, shortSwitch, isOver, firstLateOf, isBare, refusalOf, JudgedByRules, AdmissionLaws}
+use Rattle.admission.specs.Rules.{Routed, flowsOf, switchNeed, memoryOf, Fits, FailsFirst, tooMany, overPort, lateFlow, shortSwitch, isOver, firstLateOf, isBare, refusalOf, JudgedByRules}
+use Rattle.admission.specs.Laws.{AdmissionLaws}
+use Rattle.admission.proofs.ExampleLaws.{worked-table}
 use Rattle.admission.proofs.LowestLaws.{lowest-law}
 
 -- what follows of each element from two facts of it
-all-both : {X : Type 0} (P Q R : X → Type 0) → ((x : X) → P x → Q x → R x) → (xs : List X) → All P xs → All Q xs → All R xs
+pub all-both : {X : Type 0} (P Q R : X → Type 0) → ((x : X) → P x → Q x → R x) → (xs : List X) → All P xs → All Q xs → All R xs
 all-both P Q R h [] a b = tt
 all-both P Q R h (x ∷ xs) a b = (h x (a .0) (b .0), all-both P Q R h xs (a .1) (b .1))
 
@@ -94,10 +96,10 @@ road-passes (q ∷ ps) = (
 )
 
 -- the rate of each flow is among those of its class
-abbrev Among : List FlowModel → FlowModel → Type 0
+abbrev pub Among : List FlowModel → FlowModel → Type 0
 Among fs f = (p : ℕ) → over p f ≡ true → f .rate ≤ ratesIn p (f .class) fs
 
-each-among : (fs : List FlowModel) → All (Among fs) fs
+pub each-among : (fs : List FlowModel) → All (Among fs) fs
 unfolding ratesIn
 each-among [] = tt
 each-among (g ∷ fs) = (
@@ -113,49 +115,57 @@ last-due net fs c (p ∷ ps) some =
     let e : length (p ∷ ps) - 1 ≡ length ps = omega arith in
     ap (λ n. getD (dues net fs c 0 (p ∷ ps)) n 0) e ∙ last-is-due net fs c p ps
 
--- by tables that are kept for flows of a net
-module _ (net : NetModel) (loads : List LoadModel) (pairs : List (List LoadModel)) (fs : List FlowModel) (few : length (net .ports) ≤ 64)
-    (sound : All (Routed net) fs) (kept : Kept loads fs) (between : PairsOf pairs fs) where
+-- for flows with roads through a net
+module _ (net : NetModel) (fs : List FlowModel) (sound : All (Routed net) fs) where
   low : All Classed fs
   low = all-weaker (Routed net) Classed (λ f h. h .classLow) fs sound
 
   rated : All Rated fs
   rated = all-weaker (Routed net) Rated (λ f h. h .rateSome) fs sound
 
-  -- 4: by the sums and by the flows
-  over-same : (p : ℕ) → p < length (net .ports) → overPromised loads p ≡ isOver fs p
-  over-same p port = ap (ltb den) (ap (λ (t : LoadModel). total (t .rates)) (kept p (omega arith)) ∙ rates-kept p fs low)
-
   -- no port at all is promised more than all of itself, as none of the net is
-  room-everywhere : ((p : ℕ) → p < length (net .ports) → rates p fs ≤ den) → (p : ℕ) → rates p fs ≤ den
+  pub room-everywhere : ((p : ℕ) → p < length (net .ports) → rates p fs ≤ den) → (p : ℕ) → rates p fs ≤ den
   room-everywhere room p =
       elim (cases-lt p (length (net .ports))) [
         | inl port ↦ room p port
         | inr beyond ↦ let none = rates-none net p fs beyond sound in omega arith
       ]
 
+  -- what a flow is due, by the sums that are kept and by the flows
+  pub dues-same : (loads : List LoadModel) → length (net .ports) ≤ 64 → Kept loads fs → ((p : ℕ) → rates p fs ≤ den) →
+      (f : FlowModel) → Routed net f → Among fs f →
+      loadsDues net loads (f .class) 0 (f .road) ≡ Some (dues net fs (f .class) 0 (f .road))
+  dues-same loads few kept room f is among =
+      let known : All (λ p. (p < 64) × (before p (f .class) fs < den)) (f .road) =
+      all-both (λ p. p < length (net .ports)) (λ p. passes p (f .road) ≡ true) (λ p. (p < 64) × (before p (f .class) fs < den))
+      (λ p port on. (omega arith, promises p on)) (f .road) (is .route .known) (road-passes (f .road)) in
+      dues-kept net loads fs (f .class) 0 (f .road) kept low (is .classLow) known
+    where
+      promises : (p : ℕ) → passes p (f .road) ≡ true → before p (f .class) fs < den
+      promises p on =
+          let own = among p on in
+          let all = rates-among p (f .class) fs low in
+          let most = room p in
+          let some = is .rateSome in
+          omega arith
+
+-- by tables that are kept for flows of a net
+module _ (net : NetModel) (loads : List LoadModel) (pairs : List (List LoadModel)) (fs : List FlowModel) (few : length (net .ports) ≤ 64)
+    (sound : All (Routed net) fs) (kept : Kept loads fs) (between : PairsOf pairs fs) where
+  -- 4: by the sums and by the flows
+  over-same : (p : ℕ) → p < length (net .ports) → overPromised loads p ≡ isOver fs p
+  over-same p port = ap (ltb den) (ap (λ (t : LoadModel). total (t .rates)) (kept p (omega arith)) ∙ rates-kept p fs (low net fs sound))
+
   module _ (room : (p : ℕ) → rates p fs ≤ den) where
     -- 5
     late-same : (f : FlowModel) → Routed net f → Among fs f → isLate net loads f ≡ ltb (f .deadline) (due net fs f)
     late-same f is among =
-        let c = f .class in
-        let known : All (λ p. (p < 64) × (before p c fs < den)) (f .road) =
-        all-both (λ p. p < length (net .ports)) (λ p. passes p (f .road) ≡ true) (λ p. (p < 64) × (before p c fs < den))
-        (λ p port on. (omega arith, promises p on)) (f .road) (is .route .known) (road-passes (f .road)) in
-        ap (lateBy (f .deadline) (length (f .road))) (dues-kept net loads fs c 0 (f .road) kept low (is .classLow) known)
-        ∙ ap (ltb (f .deadline)) (last-due net fs c (f .road) (is .roadSome))
-      where
-        promises : (p : ℕ) → passes p (f .road) ≡ true → before p (f .class) fs < den
-        promises p on =
-            let own = among p on in
-            let all = rates-among p (f .class) fs low in
-            let most = room p in
-            let some = is .rateSome in
-            omega arith
+        ap (lateBy (f .deadline) (length (f .road))) (dues-same net fs sound loads few kept room f is among)
+        ∙ ap (ltb (f .deadline)) (last-due net fs (f .class) (f .road) (is .roadSome))
 
     -- 6
     bare-same : (s : ℕ) → isShort net loads pairs (length (net .ports)) s ≡ isBare net fs s
-    bare-same s = ap (ltb (memoryOf net s)) (needs-kept net loads pairs fs kept between low rated room s (length (net .ports)) few)
+    bare-same s = ap (ltb (memoryOf net s)) (needs-kept net loads pairs fs kept between (low net fs sound) (rated net fs sound) room s (length (net .ports)) few)
 
 -- two lists of tests of which the first agree, and the others where the first pass
 first-same : (v : ℕ → Refusal) (x y : Option ℕ) (a b : Option Refusal) → x ≡ y → (y ≡ None → a ≡ b) →
@@ -177,7 +187,7 @@ judged-by-rules net loads pairs gs few sound kept between =
     ap (firstOf (crowded (length gs)))
     (first-same Promised _ _ _ _
     (lowest-same (overPromised loads) (isOver fs) (length (net .ports)) 0 (λ p low port. over-same net loads pairs fs few sound kept between p (omega arith)))
-    (λ none. others (room-everywhere net loads pairs fs few sound kept between (none-over net fs none))))
+    (λ none. others (room-everywhere net fs sound (none-over net fs none))))
   where
     fs : List FlowModel
     fs = flowsOf gs
@@ -360,4 +370,4 @@ module _ (net : NetModel) (gs : List NumberedModel) where
       by7 (inr rest) = by4 (crowded-none (length gs) (rest .0)) (first-some (mapped Promised overs) from5 r (rest .1))
 
 pub admission-laws : AdmissionLaws
-admission-laws = record { exact = λ net gs. (fits-passed net gs, passed-fits net gs); first = fails-first; judged = judged-by-rules }
+admission-laws = record { exact = λ net gs. (fits-passed net gs, passed-fits net gs); first = fails-first; judged = judged-by-rules; examples = worked-table }

@@ -1,6 +1,9 @@
 pub mod Lowest
 pub mod Tests
 pub mod Rules
+pub mod Examples
+pub mod Laws
 pub mod Sound
 pub mod Models
 pub mod Plans
+pub mod Dues

@@ -96,8 +96,3 @@ JudgedByRules =
     (net : NetModel) (loads : List LoadModel) (pairs : List (List LoadModel)) (gs : List NumberedModel) →
     length (net .ports) ≤ 64 → All (Routed net) (flowsOf gs) → Kept loads (flowsOf gs) → PairsOf pairs (flowsOf gs) →
     judged net (length (net .ports)) (length (net .memories)) loads pairs gs ≡ refusalOf net gs
-
-pub record AdmissionLaws : Type 0 where
-  pub exact : Exact
-  pub first : NamesFirst
-  pub judged : JudgedByRules

@@ -8,7 +8,7 @@ ghost use Rattle.std.specs.Of.Vec.{vec-items};
 ghost use Rattle.std.specs.Options.{Cases as BySome};
 ghost use Rattle.cases.specs.Digits.{digitOf, spelled, nameOf};
 use records::stage::Program;
-use script::print::whole_text;
+use printing::print::whole_text;
 use std::alloc::Global;
 use std::error::AnyError;
 use std::io::BufRead;

@@ -1,2 +1,1 @@
 mod StepLaws
-mod OutputLaws

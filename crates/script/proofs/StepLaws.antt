@@ -19,30 +19,23 @@ use Rattle.records.specs.declared.stage.Kind.{Kind}
 use Rattle.records.specs.declared.stage.Kind.the-variants as kinds
 use Rattle.records.specs.Kinds.{kindOf}
 use Rattle.records.specs.Records.{RecordModel, aSwitch, aNet, aFlow, aPacket, anArrival, someTicks, recordAs, judgedAs}
+use Rattle.admission.specs.declared.refusal.Refusal.{Refusal}
+use Rattle.admission.specs.Plans.{tested}
+use Rattle.admission.specs.Dues.{flowNumbered}
 use Rattle.script.specs.declared.line.Name.{Name}
 use Rattle.script.specs.declared.line.Cause.{Cause}
 use Rattle.script.specs.declared.line.Cause.the-variants as causes
 use Rattle.script.specs.declared.line.Line.{Line}
 use Rattle.script.specs.declared.line.Line.the-variants as lines
-use Rattle.script.specs.Session.{Standing, Done, nameOf, faultAt, keepsNumber, noted, withFlow, takePacket, packetFits, arrivalFits, flowNumbered, takeNet, tooMuch, takeTicks, lastTick, withRefused, counted, stepAs, readAs, leastSwitches}
+use Rattle.script.specs.Session.{Standing, Done, nameOf, faultAt, takePacket, packetFits, arrivalFits, takeFlowAs, takeNet, tooMuch, takeTicks, lastTick, withRefused, counted, stepAs, readAs, leastSwitches}
 use Rattle.script.specs.SessionLaws.{OnlyCounts, RefusedOnlyCounts, CutIsRefused}
 
--- a standing in which no flow was noted differs from s at most in a flow number
-noted-none : (s : Standing) (bs : List ℕ) → OnlyCounts s (noted s bs None)
-noted-none s bs = by (keepsNumber s bs)
-  where
-    by : (b : Bool) → OnlyCounts s (cond b (withFlow s None) s)
-    by true = record { program = refl; stage = refl; switch = refl; net = refl; clock = refl; flows = inr refl }
-    by false = record { program = refl; stage = refl; switch = refl; net = refl; clock = refl; flows = inl refl }
-
--- what only counts more changes nothing else either
-module _ (s t : Standing) (base : OnlyCounts s t) (name : Name) (cause : Cause) where
+module _ (s : Standing) (name : Name) (cause : Cause) where
   -- a packet that is refused
-  packet-counts : (flow : ℕ) (fits : Option Bool) → takePacket t flow fits .0 ≡ lines.Refused name cause →
-      OnlyCounts s (takePacket t flow fits .1)
-  packet-counts flow None e =
-      record { program = base .program; stage = base .stage; switch = base .switch; net = base .net; clock = base .clock; flows = base .flows }
-  packet-counts flow (Some false) e = base
+  packet-counts : (flow : ℕ) (fits : Option Bool) → takePacket s flow fits .0 ≡ lines.Refused name cause →
+      OnlyCounts s (takePacket s flow fits .1)
+  packet-counts flow None e = record { program = refl; stage = refl; switch = refl; plan = refl; clock = refl }
+  packet-counts flow (Some false) e = record { program = refl; stage = refl; switch = refl; plan = refl; clock = refl }
   packet-counts flow (Some true) e = let z : _≡_ {A = ℕ} 0 1 = cc in absurd (omega arith)
 
   -- one of two things happens
@@ -51,41 +44,39 @@ module _ (s t : Standing) (base : OnlyCounts s t) (name : Name) (cause : Cause) 
   either-counts true x y first second e = first e
   either-counts false x y first second e = second e
 
-  counts-more : (noFlow others : ℕ) → OnlyCounts s (withRefused t noFlow others)
-  counts-more noFlow others =
-      record { program = base .program; stage = base .stage; switch = base .switch; net = base .net; clock = base .clock; flows = base .flows }
+  counts-more : (noFlow others : ℕ) → OnlyCounts s (withRefused s noFlow others)
+  counts-more noFlow others = record { program = refl; stage = refl; switch = refl; plan = refl; clock = refl }
 
-  net-counts : (net : NetModel) → takeNet t net .0 ≡ lines.Refused name cause → OnlyCounts s (takeNet t net .1)
+  net-counts : (net : NetModel) → takeNet s net .0 ≡ lines.Refused name cause → OnlyCounts s (takeNet s net .1)
   net-counts net e =
-      either-counts (tooMuch (t .program) net) _ _ (λ _. counts-more _ _) (λ f. let z : _≡_ {A = ℕ} 0 1 = cc in absurd (omega arith)) e
+      either-counts (tooMuch (s .program) net) _ _ (λ _. counts-more _ _) (λ f. let z : _≡_ {A = ℕ} 0 1 = cc in absurd (omega arith)) e
 
-  ticks-counts : (count : ℕ) → takeTicks t count .0 ≡ lines.Refused name cause → OnlyCounts s (takeTicks t count .1)
+  flow-counts : (f : FlowModel) (r : Option Refusal) → takeFlowAs s f r .0 ≡ lines.Refused name cause → OnlyCounts s (takeFlowAs s f r .1)
+  flow-counts f None e = let z : _≡_ {A = ℕ} 0 1 = cc in absurd (omega arith)
+  flow-counts f (Some r) e = counts-more _ _
+
+  ticks-counts : (count : ℕ) → takeTicks s count .0 ≡ lines.Refused name cause → OnlyCounts s (takeTicks s count .1)
   ticks-counts count e =
-      either-counts (leb (t .clock + count) lastTick) _ _ (λ f. let z : _≡_ {A = ℕ} 0 1 = cc in absurd (omega arith)) (λ _. counts-more _ _) e
+      either-counts (leb (s .clock + count) lastTick) _ _ (λ f. let z : _≡_ {A = ℕ} 0 1 = cc in absurd (omega arith)) (λ _. counts-more _ _) e
 
 -- the counts of the record itself
 counted-too : (s t : Standing) (bs : List ℕ) → OnlyCounts s t → OnlyCounts s (counted bs t)
 counted-too s t bs base =
-    record { program = base .program; stage = base .stage; switch = base .switch; net = base .net; clock = base .clock; flows = base .flows }
+    record { program = base .program; stage = base .stage; switch = base .switch; plan = base .plan; clock = base .clock }
 
 refused-counts : (s : Standing) (bs : List ℕ) (v : Verdict RecordModel) (name : Name) (cause : Cause) →
     stepAs s bs v .0 ≡ lines.Refused name cause → OnlyCounts s (stepAs s bs v .1)
-refused-counts s bs (refused number place) name cause e =
-    counted-too s _ bs (counts-more s (noted s bs None) (noted-none s bs) name cause _ _)
+refused-counts s bs (refused number place) name cause e = counted-too s _ bs (counts-more s name cause _ _)
 refused-counts s bs (accepted (aSwitch k)) name cause e = let z : _≡_ {A = ℕ} 0 1 = cc in absurd (omega arith)
-refused-counts s bs (accepted (aNet net)) name cause e =
-    counted-too s _ bs (net-counts s (noted s bs None) (noted-none s bs) name cause net e)
-refused-counts s bs (accepted (aFlow f)) name cause e = let z : _≡_ {A = ℕ} 0 1 = cc in absurd (omega arith)
+refused-counts s bs (accepted (aNet net)) name cause e = counted-too s _ bs (net-counts s name cause net e)
+refused-counts s bs (accepted (aFlow f)) name cause e =
+    counted-too s _ bs (flow-counts s name cause f (tested (s .plan) (record { number = s .numbered; flow = f })) e)
 refused-counts s bs (accepted (aPacket p)) name cause e =
-    let t = noted s bs None in
-    let fits = packetFits (flowNumbered (t .flows) (p .flow)) p in
-    counted-too s _ bs (packet-counts s t (noted-none s bs) name cause (p .flow) fits e)
+    counted-too s _ bs (packet-counts s name cause (p .flow) (packetFits (flowNumbered (s .plan .flows) (p .flow)) p) e)
 refused-counts s bs (accepted (anArrival a)) name cause e =
-    let t = noted s bs None in
-    let fits = arrivalFits (flowNumbered (t .flows) (a .packet .flow)) (t .net) (t .switch) a in
-    counted-too s _ bs (packet-counts s t (noted-none s bs) name cause (a .packet .flow) fits e)
-refused-counts s bs (accepted (someTicks t)) name cause e =
-    counted-too s _ bs (ticks-counts s (noted s bs None) (noted-none s bs) name cause (t .count) e)
+    let fits = arrivalFits (flowNumbered (s .plan .flows) (a .packet .flow)) (s .plan .net) (s .switch) a in
+    counted-too s _ bs (packet-counts s name cause (a .packet .flow) fits e)
+refused-counts s bs (accepted (someTicks t)) name cause e = counted-too s _ bs (ticks-counts s name cause (t .count) e)
 
 pub refused-only-counts : RefusedOnlyCounts
 refused-only-counts s e name cause is = refused-counts s (e .bytes) (readAs s e) name cause is
@@ -112,20 +103,8 @@ cut-kind kinds.Tick net least bs r e = never-cut someTicks _ r e
 pub cut-is-refused : CutIsRefused
 cut-is-refused s e cut = by (readAs s e) refl
   where
-    same-records : (b : Bool) → cond b (withFlow s None) s .records ≡ s .records
-    same-records true = refl
-    same-records false = refl
-
-    same-numbered : (b : Bool) → cond b (withFlow s None) s .numbered ≡ s .numbered
-    same-numbered true = refl
-    same-numbered false = refl
-
     by : (v : Verdict RecordModel) → readAs s e ≡ v →
         (number place : ℕ) × (stepAs s (e .bytes) v .0 ≡ lines.Refused (nameOf (s .records) (s .numbered) (e .bytes)) (causes.Fault (faultAt number place)))
-    by (refused number place) is = (
-      number,
-      place,
-      ap₂ (λ m n. lines.Refused (nameOf m n (e .bytes)) (causes.Fault (faultAt number place))) (same-records (keepsNumber s (e .bytes))) (same-numbered (keepsNumber s (e .bytes))),
-    )
+    by (refused number place) is = (number, place, refl)
     by (accepted r) is =
-        absurd (cut-kind (kindOf (s .program) (s .stage) (e .bytes)) (s .net) (leastSwitches (s .program) (s .switch)) (e .bytes) r (rw cut at is))
+        absurd (cut-kind (kindOf (s .program) (s .stage) (e .bytes)) (s .plan .net) (leastSwitches (s .program) (s .switch)) (e .bytes) r (rw cut at is))

@@ -2,5 +2,3 @@ pub mod Lines
 pub mod Session
 pub mod SessionLaws
 pub mod Models
-pub mod Output
-pub mod Parts

@@ -4,7 +4,7 @@ use mathlib.Core.Bool.{Bool, true, false, cond, not, _&&_}
 use mathlib.Core.List.{List, [], _∷_, _++_}
 use Prim.Native.Nat.{ℕ, _+_, min}
 use lib.Dec.{eqb, leb, ltb}
-use lib.ListN.{length, getD}
+use lib.ListN.{length}
 use Rattle.std.specs.declared.option.Option.{Option}
 use Rattle.std.specs.declared.option.Option.the-variants.{Some, None}
 use Rattle.bytes.specs.Reading.{Verdict, accepted, refused}
@@ -14,6 +14,9 @@ use Rattle.bytes.specs.declared.fault.Fault.the-variants as faults
 use Rattle.flows.specs.Net.{NetModel, portAt, noNet, together}
 use Rattle.flows.specs.Flow.{FlowModel}
 use Rattle.flows.specs.FlowFormat.{passes}
+use Rattle.admission.specs.declared.refusal.Refusal.{Refusal}
+use Rattle.admission.specs.Plans.{PlanModel, emptyPlan, withFlow, tested}
+use Rattle.admission.specs.Dues.{flowNumbered}
 use Rattle.records.specs.declared.stage.Program.{Program}
 use Rattle.records.specs.declared.stage.Program.the-variants as programs
 use Rattle.records.specs.declared.stage.Stage.{Stage}
@@ -30,15 +33,13 @@ use Rattle.script.specs.declared.line.Cause.the-variants as causes
 use Rattle.script.specs.declared.line.Line.{Line}
 use Rattle.script.specs.declared.line.Line.the-variants as lines
 
--- How far a program has come: where it stands, its switch, its net, what became of each flow record that a packet can
--- name, the clock; and counts: records, those of them that took a flow number, refused packets of no flow, and other
--- refused records.
+-- How far a program has come: where it stands, its switch, its net with the flows that are admitted to it, the clock; and
+-- counts: records, those of them that took a flow number, refused packets of no flow, and other refused records.
 pub record Standing : Type 0 where
   pub program : Program
   pub stage : Stage
   pub switch : ℕ
-  pub net : NetModel
-  pub flows : List (Option FlowModel)
+  pub plan : PlanModel
   pub clock : ℕ
   pub records : ℕ
   pub numbered : ℕ
@@ -65,8 +66,7 @@ beginning program =
       program = program;
       stage = firstStage program;
       switch = 0;
-      net = noNet;
-      flows = [];
+      plan = emptyPlan noNet;
       clock = 0;
       records = 0;
       numbered = 0;
@@ -102,29 +102,13 @@ abbrev pub faultAt : ℕ → ℕ → Fault
 faultAt number place = cond (eqb number 1) (faults.Length place) (cond (eqb number 2) (faults.Range place) (faults.Road place))
 
 -- Parts of a step. Each leaves all else as it was.
-abbrev pub withFlow : Standing → Option FlowModel → Standing
-withFlow s flow =
-    record {
-      program = s .program;
-      stage = s .stage;
-      switch = s .switch;
-      net = s .net;
-      flows = s .flows ++ flow ∷ [];
-      clock = s .clock;
-      records = s .records;
-      numbered = s .numbered;
-      noFlow = s .noFlow;
-      others = s .others;
-    }
-
 abbrev pub withSwitch : Standing → ℕ → Standing
 withSwitch s switch =
     record {
       program = s .program;
       stage = stages.NoNet;
       switch = switch;
-      net = s .net;
-      flows = s .flows;
+      plan = s .plan;
       clock = s .clock;
       records = s .records;
       numbered = s .numbered;
@@ -138,8 +122,21 @@ withNet s net =
       program = s .program;
       stage = stages.Still;
       switch = s .switch;
-      net = net;
-      flows = s .flows;
+      plan = emptyPlan net;
+      clock = s .clock;
+      records = s .records;
+      numbered = s .numbered;
+      noFlow = s .noFlow;
+      others = s .others;
+    }
+
+abbrev pub withPlan : Standing → PlanModel → Standing
+withPlan s plan =
+    record {
+      program = s .program;
+      stage = s .stage;
+      switch = s .switch;
+      plan = plan;
       clock = s .clock;
       records = s .records;
       numbered = s .numbered;
@@ -153,8 +150,7 @@ withClock s stage clock =
       program = s .program;
       stage = stage;
       switch = s .switch;
-      net = s .net;
-      flows = s .flows;
+      plan = s .plan;
       clock = clock;
       records = s .records;
       numbered = s .numbered;
@@ -168,8 +164,7 @@ withRefused s noFlow others =
       program = s .program;
       stage = s .stage;
       switch = s .switch;
-      net = s .net;
-      flows = s .flows;
+      plan = s .plan;
       clock = s .clock;
       records = s .records;
       numbered = s .numbered;
@@ -183,8 +178,7 @@ withCounts s records numbered =
       program = s .program;
       stage = s .stage;
       switch = s .switch;
-      net = s .net;
-      flows = s .flows;
+      plan = s .plan;
       clock = s .clock;
       records = records;
       numbered = numbered;
@@ -203,9 +197,13 @@ refuse s name cause = (lines.Refused name cause, withRefused s (s .noFlow) (oneM
 abbrev pub takeSwitch : Standing → ℕ → Done
 takeSwitch s switch = (lines.Silent, withSwitch s switch)
 
--- the flow of a number, if a flow of that number was read
-abbrev pub flowNumbered : List (Option FlowModel) → ℕ → Option FlowModel
-flowNumbered flows n = getD flows n None
+-- a flow is admitted, or refused for the first test that it fails
+abbrev pub takeFlowAs : Standing → FlowModel → Option Refusal → Done
+takeFlowAs s f None = (lines.Admitted (s .numbered), withPlan s (withFlow (s .plan) (record { number = s .numbered; flow = f })))
+takeFlowAs s f (Some r) = refuse s (names.Flow (s .numbered)) (causes.Admission r)
+
+abbrev pub takeFlow : Standing → FlowModel → Done
+takeFlow s f = takeFlowAs s f (tested (s .plan) (record { number = s .numbered; flow = f }))
 
 -- 8: a packet's length is at least 1, and at most the longest of its flow
 abbrev pub lengthFits : FlowModel → ℕ → Bool
@@ -252,10 +250,10 @@ takeTicks s count =
 abbrev pub takeRecord : Standing → RecordModel → Done
 takeRecord s (aSwitch k) = takeSwitch s (k .number)
 takeRecord s (aNet net) = takeNet s net
-takeRecord s (aFlow f) = (lines.Flow (s .numbered), s)
-takeRecord s (aPacket p) = takePacket s (p .flow) (packetFits (flowNumbered (s .flows) (p .flow)) p)
+takeRecord s (aFlow f) = takeFlow s f
+takeRecord s (aPacket p) = takePacket s (p .flow) (packetFits (flowNumbered (s .plan .flows) (p .flow)) p)
 takeRecord s (anArrival a) =
-    takePacket s (a .packet .flow) (arrivalFits (flowNumbered (s .flows) (a .packet .flow)) (s .net) (s .switch) a)
+    takePacket s (a .packet .flow) (arrivalFits (flowNumbered (s .plan .flows) (a .packet .flow)) (s .plan .net) (s .switch) a)
 takeRecord s (someTicks t) = takeTicks s (t .count)
 
 -- what becomes of any record
@@ -263,39 +261,18 @@ abbrev pub becomes : Standing → List ℕ → Verdict RecordModel → Done
 becomes s bs (refused number place) = refuse s (nameOf (s .records) (s .numbered) bs) (causes.Fault (faultAt number place))
 becomes s bs (accepted r) = takeRecord s r
 
--- the flow in a record, if it is one
-abbrev pub flowIn : RecordModel → Option FlowModel
-flowIn (aSwitch k) = None
-flowIn (aNet net) = None
-flowIn (aFlow f) = Some f
-flowIn (aPacket p) = None
-flowIn (anArrival a) = None
-flowIn (someTicks t) = None
-
--- the flow that was read, if one was
-abbrev pub flowRead : Verdict RecordModel → Option FlowModel
-flowRead (refused number place) = None
-flowRead (accepted r) = flowIn r
-
--- a flow number is kept as long as a packet can name it
-abbrev pub keepsNumber : Standing → List ℕ → Bool
-keepsNumber s bs = takesNumber bs && ltb (length (s .flows)) 65536
-
-abbrev pub noted : Standing → List ℕ → Option FlowModel → Standing
-noted s bs flow = cond (keepsNumber s bs) (withFlow s flow) s
-
 -- the record is counted
 abbrev pub counted : List ℕ → Standing → Standing
 counted bs s = withCounts s (oneMore (s .records)) (cond (takesNumber bs) (oneMore (s .numbered)) (s .numbered))
 
 -- what a record is read as where the program stands
 abbrev pub readAs : Standing → Extent → Verdict RecordModel
-readAs s e = recordHere (s .program) (s .stage) (s .net) (leastSwitches (s .program) (s .switch)) (e .whole) (e .bytes)
+readAs s e = recordHere (s .program) (s .stage) (s .plan .net) (leastSwitches (s .program) (s .switch)) (e .whole) (e .bytes)
 
 -- one record, by what it is read as: what is said of it, and where the program stands then
 abbrev pub stepAs : Standing → List ℕ → Verdict RecordModel → Done
 stepAs s bs v =
-    let done = becomes (noted s bs (flowRead v)) bs v in
+    let done = becomes s bs v in
     (done .0, counted bs (done .1))
 
 abbrev pub step : Standing → Extent → Done

@@ -1,10 +1,7 @@
 -- Laws of what becomes of records. Assumes nothing.
 use mathlib.Core.Path.{_≡_}
 use mathlib.Core.Bool.{false}
-use mathlib.Core.List.{[], _∷_, _++_}
-use mathlib.Core.Logic.{_⊎_}
 use Prim.Native.Nat.{ℕ}
-use Rattle.std.specs.declared.option.Option.the-variants.{None}
 use Rattle.bytes.specs.Row.{Extent}
 use Rattle.script.specs.declared.line.Name.{Name}
 use Rattle.script.specs.declared.line.Cause.{Cause}
@@ -12,14 +9,13 @@ use Rattle.script.specs.declared.line.Cause.the-variants as causes
 use Rattle.script.specs.declared.line.Line.the-variants as lines
 use Rattle.script.specs.Session.{Standing, nameOf, faultAt, step}
 
--- t differs from s in counts alone, and in that a flow number may be used up
+-- t differs from s in counts alone
 pub record OnlyCounts (s t : Standing) : Type 0 where
   pub program : t .program ≡ s .program
   pub stage : t .stage ≡ s .stage
   pub switch : t .switch ≡ s .switch
-  pub net : t .net ≡ s .net
+  pub plan : t .plan ≡ s .plan
   pub clock : t .clock ≡ s .clock
-  pub flows : (t .flows ≡ s .flows) ⊎ (t .flows ≡ s .flows ++ None ∷ [])
 
 -- what is refused changes nothing but counts
 abbrev pub RefusedOnlyCounts : Type 0

@@ -1,6 +1,5 @@
 ghost use Prim.Native.Nat.{_≤_};
-use flows::flow::Flow;
-use flows::net::Net;
+use admission::plan::Plan;
 use records::stage::Program;
 use records::stage::Stage;
 
@@ -11,9 +10,7 @@ pub struct Session {
     pub stage: Stage,
     // the switch that this program is, where it is one
     pub switch: u8,
-    pub net: Net,
-    // what became of each flow record that a packet can name
-    pub flows: Vec<Option<Flow>>,
+    pub plan: Plan,
     pub clock: u64,
     // records so far
     pub records: u64,

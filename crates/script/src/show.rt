@@ -4,6 +4,7 @@ ghost use Rattle.script.specs.Lines.{nameText, causeText, lineText};
 use super::line::Cause;
 use super::line::Line;
 use super::line::Name;
+use admission::refusal::Refusal;
 use bytes::fault::Fault;
 use std::fmt;
 
@@ -33,6 +34,21 @@ pub impl fmt::Display for Cause as CauseDisplay {
             Cause::Fault {
                 fault: Fault::Road { at },
             } => write!(f, "3: byte {at}"),
+            Cause::Admission {
+                refusal: Refusal::Road,
+            } => write!(f, "3"),
+            Cause::Admission {
+                refusal: Refusal::Promised { port },
+            } => write!(f, "4: port {port}"),
+            Cause::Admission {
+                refusal: Refusal::Late { flow },
+            } => write!(f, "5: flow {flow}"),
+            Cause::Admission {
+                refusal: Refusal::Memory { switch },
+            } => write!(f, "6: switch {switch}"),
+            Cause::Admission {
+                refusal: Refusal::Crowded,
+            } => write!(f, "7"),
             Cause::Packet { flow } => write!(f, "8: flow {flow}"),
             Cause::Clock => write!(f, "10"),
             Cause::Memories => write!(f, "11"),
@@ -47,7 +63,7 @@ pub impl fmt::Display for Line as LineDisplay {
         match self {
             Line::Silent => Ok(()),
             Line::Net { ports, switches } => write!(f, "net: {ports} ports, {switches} switches"),
-            Line::Flow { number } => write!(f, "flow {number}: read"),
+            Line::Admitted { number: _ } => Ok(()),
             Line::Refused { name, cause } => write!(f, "{name}: refused {cause}"),
             Line::Clock { tick } => write!(f, "clock {tick}"),
             Line::Counts { no_flow, others } => {

@@ -1,44 +1,49 @@
 // What becomes of a record that was read.
 ghost use mathlib.Core.Path.{_≡_};
-ghost use Rattle.std.specs.Options.{mapped};
+ghost use Rattle.std.specs.Results.{Cases as ByOk};
+ghost use Rattle.std.specs.Vec.{made};
 ghost use Rattle.flows.specs.Models.{netOf, flowOf};
 ghost use Rattle.script.specs.Models.{standing};
-ghost use Rattle.script.specs.Session.{beginning, leastSwitches, nameOf, refuse, flowNumbered, takeSwitch, takeNet, takeTicks};
+ghost use Rattle.script.specs.Session.{beginning, leastSwitches, nameOf, refuse, takeSwitch, takeNet, takeFlow, takeTicks};
 use super::line::Cause;
 use super::line::Line;
 use super::line::Name;
 use super::session::Session;
+use admission::plan::Plan;
+use admission::refusal::NotAdmitted;
+use admission::refusal::Numbered;
 use flows::flow::Flow;
 use flows::net::Net;
 use records::record::Switch;
 use records::record::Ticks;
 use records::stage::Program;
 use records::stage::Stage;
+use std::alloc::AllocError;
 use std::alloc::Global;
 
 const LAST_TICK: u64 = 1_099_511_627_776;
 
 impl Session {
-    pub fn new(heap: Global, program: Program) -> Session
-        ensures { λ r. ⌜ standing r ≡ beginning program ⌝ }
+    pub fn new(heap: Global, program: Program) -> Result<Session, AllocError>
+        ensures { λ r. ⌜ made r (λ s. standing s ≡ beginning program) ⌝ }
     {
+        let plan = Plan::new(heap, Net::none())?;
         let stage = match program {
             Program::Admit => Stage::NoNet,
             Program::Ports => Stage::NoSwitch,
             Program::Evening => Stage::NoNet,
         };
-        Session {
+        Ok(Session {
             program,
             stage,
             switch: 0,
-            net: Net::none(),
-            flows: Vec::new(heap),
+            plan,
             clock: 0,
             records: 0,
             numbered: 0,
             no_flow: 0,
             others: 0,
-        }
+        })
     }
 
     // How many switches a net must have: so many that the program's own is there.
@@ -79,17 +84,6 @@ impl Session {
         Line::Refused { name, cause }
     }
 
-    // The flow of this number, if one was read.
-    pub(crate) fn flow(&self, number: u16) -> Option<Flow>
-        ensures { λ r. ⌜ mapped flowOf r ≡ flowNumbered (standing (now (self .entry)) .flows) number ⌝ }
-    {
-        let at = number as usize;
-        if at < self.flows.len() {
-            return self.flows[at];
-        }
-        None
-    }
-
     pub(crate) fn take_switch(&mut self, switch: Switch) -> Line
         ensures { λ r. ⌜ (r, standing (now (self .exit))) ≡ takeSwitch (standing (now (self .entry))) (switch .number) ⌝ }
     {
@@ -98,8 +92,8 @@ impl Session {
         Line::Silent
     }
 
-    pub(crate) fn take_net(&mut self, net: Net) -> Line
-        ensures { λ r. ⌜ (r, standing (now (self .exit))) ≡ takeNet (standing (now (self .entry))) (netOf net) ⌝ }
+    pub(crate) fn take_net(&mut self, heap: Global, net: Net) -> Result<Line, AllocError>
+        ensures { λ r. ⌜ ByOk r (λ line. (line, standing (now (self .exit))) ≡ takeNet (standing (now (self .entry))) (netOf net)) (λ _. standing (now (self .exit)) ≡ standing (now (self .entry))) ⌝ }
     {
         let together = net.memory_together();
         let too_much = match self.program {
@@ -108,13 +102,26 @@ impl Session {
             Program::Evening => together > 4_194_304,
         };
         if too_much {
-            return self.refuse(Name::Net, Cause::Memories);
+            return Ok(self.refuse(Name::Net, Cause::Memories));
         }
-        self.net = net;
+        self.plan = Plan::new(heap, net)?;
         self.stage = Stage::Still;
-        Line::Net {
+        Ok(Line::Net {
             ports: net.count,
             switches: net.switches,
+        })
+    }
+
+    pub(crate) fn take_flow(&mut self, flow: Flow) -> Result<Line, AllocError>
+        ensures { λ r. ⌜ ByOk r (λ line. (line, standing (now (self .exit))) ≡ takeFlow (standing (now (self .entry))) (flowOf flow)) (λ _. standing (now (self .exit)) ≡ standing (now (self .entry))) ⌝ }
+    {
+        let number = self.numbered;
+        match self.plan.admit(Numbered { number, flow }) {
+            Ok(()) => Ok(Line::Admitted { number }),
+            Err(NotAdmitted::Refused { refusal }) => {
+                Ok(self.refuse(Name::Flow { number }, Cause::Admission { refusal }))
+            }
+            Err(NotAdmitted::OutOfMemory) => Err(AllocError),
         }
     }
 

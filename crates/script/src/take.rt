@@ -1,7 +1,6 @@
 // One record of the input.
 ghost use mathlib.Core.Path.{_≡_};
 ghost use mathlib.Core.Bool.{true, false};
-ghost use Rattle.std.specs.Options.{mapped};
 ghost use Rattle.std.specs.Results.{Cases as ByOk};
 ghost use Rattle.std.specs.declared.option.Option.{Option};
 ghost use Rattle.flows.specs.Models.{netOf, flowOf};
@@ -9,7 +8,8 @@ ghost use Rattle.records.specs.Records.{recordOf};
 ghost use Rattle.bytes.specs.Answers.{extent, verdict};
 ghost use Rattle.script.specs.Models.{standing};
 ghost use Rattle.script.specs.SessionLaws.{RefusedOnlyCounts, CutIsRefused};
-ghost use Rattle.script.specs.Session.{lengthFits, portFits, packetFits, arrivalFits, flowNumbered, takePacket, takeRecord, becomes, flowIn, flowRead, keepsNumber, noted, counted, takesNumber, readAs, step};
+ghost use Rattle.admission.specs.Dues.{flowNumbered};
+ghost use Rattle.script.specs.Session.{lengthFits, portFits, packetFits, arrivalFits, takePacket, takeRecord, becomes, counted, takesNumber, readAs, step};
 use super::line::Cause;
 use super::line::Line;
 use super::line::Name;
@@ -24,6 +24,7 @@ use records::record::Packet;
 use records::record::Record;
 use records::stage::Stage;
 use std::alloc::AllocError;
+use std::alloc::Global;
 
 // Whether a packet is at least a tick long, and not longer than its flow allows.
 fn length_fits(flow: &Flow, length: u8) -> bool
@@ -63,63 +64,44 @@ impl Session {
     }
 
     fn packet_fits(&self, packet: Packet) -> Option<bool>
-        ensures { λ r. ⌜ r ≡ packetFits (flowNumbered (standing (now (self .entry)) .flows) (packet .flow)) packet ⌝ }
+        ensures { λ r. ⌜ r ≡ packetFits (flowNumbered (standing (now (self .entry)) .plan .flows) (packet .flow)) packet ⌝ }
     {
-        let Some(flow) = self.flow(packet.flow) else {
+        let Some(flow) = self.plan.numbered(packet.flow as u64) else {
             return None;
         };
         Some(length_fits(&flow, packet.length))
     }
 
     fn arrival_fits(&self, arrival: Arrival) -> Option<bool>
-        ensures { λ r. ⌜ r ≡ arrivalFits (flowNumbered (standing (now (self .entry)) .flows) (arrival .packet .flow)) (netOf (now (self .entry) .net)) (now (self .entry) .switch) arrival ⌝ }
+        ensures { λ r. ⌜ r ≡ arrivalFits (flowNumbered (standing (now (self .entry)) .plan .flows) (arrival .packet .flow)) (standing (now (self .entry)) .plan .net) (now (self .entry) .switch) arrival ⌝ }
     {
-        let Some(flow) = self.flow(arrival.packet.flow) else {
+        let Some(flow) = self.plan.numbered(arrival.packet.flow as u64) else {
             return None;
         };
         Some(
             length_fits(&flow, arrival.packet.length)
-                && port_fits(&flow, &self.net, self.switch, arrival.port),
+                && port_fits(&flow, &self.plan.net, self.switch, arrival.port),
         )
     }
 
-    // What becomes of a record that was read without a fault.
-    fn take_record(&mut self, record: Record) -> Line
-        ensures { λ r. ⌜ (r, standing (now (self .exit))) ≡ takeRecord (standing (now (self .entry))) (recordOf «record») ⌝ }
+    // What becomes of a record that was read without a fault. Without memory nothing changes.
+    fn take_record(&mut self, heap: Global, record: Record) -> Result<Line, AllocError>
+        ensures { λ r. ⌜ ByOk r (λ line. (line, standing (now (self .exit))) ≡ takeRecord (standing (now (self .entry))) (recordOf «record»)) (λ _. standing (now (self .exit)) ≡ standing (now (self .entry))) ⌝ }
     {
         match record {
-            Record::Switch(switch) => self.take_switch(switch),
-            Record::Net(net) => self.take_net(net),
-            Record::Flow(_) => Line::Flow {
-                number: self.numbered,
-            },
+            Record::Switch(switch) => Ok(self.take_switch(switch)),
+            Record::Net(net) => self.take_net(heap, net),
+            Record::Flow(flow) => self.take_flow(flow),
             Record::Packet(packet) => {
                 let fits = self.packet_fits(packet);
-                self.take_fitting(packet.flow, fits)
+                Ok(self.take_fitting(packet.flow, fits))
             }
             Record::Arrival(arrival) => {
                 let fits = self.arrival_fits(arrival);
-                self.take_fitting(arrival.packet.flow, fits)
+                Ok(self.take_fitting(arrival.packet.flow, fits))
             }
-            Record::Ticks(ticks) => self.take_ticks(ticks),
+            Record::Ticks(ticks) => Ok(self.take_ticks(ticks)),
         }
-    }
-
-    // Whether a record takes a flow number that a packet can name.
-    fn keeps_number(&self, bytes: &[u8]) -> bool
-        ensures { λ r. ⌜ r ≡ keepsNumber (standing (now (self .entry))) (now (bytes .entry)) ⌝ }
-    {
-        takes_number(bytes) && self.flows.len() < 65536
-    }
-
-    // A flow number is kept as long as a packet can name it.
-    fn note(&mut self, bytes: &[u8], flow: Option<Flow>) -> Result<(), AllocError>
-        ensures { λ r. ⌜ ByOk r (λ _. standing (now (self .exit)) ≡ noted (standing (now (self .entry))) (now (bytes .entry)) (mapped flowOf flow)) (λ _. standing (now (self .exit)) ≡ standing (now (self .entry))) ⌝ }
-    {
-        if self.keeps_number(bytes) {
-            self.flows.push(flow)?;
-        }
-        Ok(())
     }
 
     fn count(&mut self, bytes: &[u8])
@@ -131,16 +113,16 @@ impl Session {
         }
     }
 
-    // What becomes of any record.
-    fn judge(&mut self, bytes: &[u8], read: Result<Record, Fault>) -> Line
-        ensures { λ r. ⌜ (r, standing (now (self .exit))) ≡ becomes (standing (now (self .entry))) (now (bytes .entry)) (verdict recordOf read) ⌝ }
+    // What becomes of any record. Without memory nothing changes.
+    fn judge(&mut self, heap: Global, bytes: &[u8], read: Result<Record, Fault>) -> Result<Line, AllocError>
+        ensures { λ r. ⌜ ByOk r (λ line. (line, standing (now (self .exit))) ≡ becomes (standing (now (self .entry))) (now (bytes .entry)) (verdict recordOf read)) (λ _. standing (now (self .exit)) ≡ standing (now (self .entry))) ⌝ }
     {
         match read {
             Err(fault) => {
                 let name = self.name(bytes);
-                self.refuse(name, Cause::Fault { fault })
+                Ok(self.refuse(name, Cause::Fault { fault }))
             }
-            Ok(record) => self.take_record(record),
+            Ok(record) => self.take_record(heap, record),
         }
     }
 
@@ -150,18 +132,16 @@ impl Session {
         ensures value { λ r. ⌜ verdict recordOf r ≡ readAs (standing (now (self .entry))) (extent (piece .entry)) ⌝ }
     {
         let least = self.least_switches();
-        read_record(self.program, self.stage, &self.net, least, piece)
+        read_record(self.program, self.stage, &self.plan.net, least, piece)
     }
 
     // One record of the input, and what is said of it. Without memory nothing changes.
-    pub fn take(&mut self, piece: Piece) -> Result<Line, AllocError>
+    pub fn take(&mut self, heap: Global, piece: Piece) -> Result<Line, AllocError>
         ensures laws { λ _. ⌜ RefusedOnlyCounts × CutIsRefused ⌝ }
         ensures value { λ r. ⌜ ByOk r (λ line. (line, standing (now (self .exit))) ≡ step (standing (now (self .entry))) (extent (piece .entry))) (λ _. standing (now (self .exit)) ≡ standing (now (self .entry))) ⌝ }
     {
         let read = self.read_here(piece);
-        let flow = flow_read(&read);
-        self.note(piece.bytes, flow)?;
-        let line = self.judge(piece.bytes, read);
+        let line = self.judge(heap, piece.bytes, read)?;
         self.count(piece.bytes);
         Ok(line)
     }
@@ -172,23 +152,4 @@ fn takes_number(bytes: &[u8]) -> bool
     ensures { λ r. ⌜ r ≡ takesNumber (now (bytes .entry)) ⌝ }
 {
     bytes.len() > 0 && bytes[0] == 1
-}
-
-fn flow_in(record: &Record) -> Option<Flow>
-    ensures { λ r. ⌜ mapped flowOf r ≡ flowIn (recordOf (now («record» .entry))) ⌝ }
-{
-    match *record {
-        Record::Flow(flow) => Some(flow),
-        _ => None,
-    }
-}
-
-// The flow that was read, if one was.
-fn flow_read(read: &Result<Record, Fault>) -> Option<Flow>
-    ensures { λ r. ⌜ mapped flowOf r ≡ flowRead (verdict recordOf (now (read .entry))) ⌝ }
-{
-    match read {
-        Ok(record) => flow_in(record),
-        Err(_) => None,
-    }
 }

@@ -1,9 +1,0 @@
-use mathlib.Core.Path.{_≡_}
-use mathlib.Core.List.{_++_}
-use lib.ListN.{drop}
-use Rattle.std.specs.Of.String.{string-bytes}
-use Rattle.script.specs.Output.{printedAll}
-use Rattle.script.proofs.print.add_lines.Given as given
-
-abbrev pub Inv-loop-line : given.InvT-loop-line
-Inv-loop-line l = string-bytes (l .text) ++ printedAll (drop (l .line-index) (l .lines)) ≡ string-bytes (l .entry .text) ++ printedAll (l .lines)
