@@ -33,7 +33,7 @@ load-same : (t u : LoadModel) → t ≡ u → sameLoad t u ≡ true
 load-same t u is =
     and-from _ _ (sameBytes-decides (t .bursts) (u .bursts) .1 (ap (λ (x : LoadModel). x .bursts) is))
     (and-from _ _ (sameBytes-decides (t .rates) (u .rates) .1 (ap (λ (x : LoadModel). x .rates) is))
-     (sameBytes-decides (t .longest) (u .longest) .1 (ap (λ (x : LoadModel). x .longest) is)))
+    (sameBytes-decides (t .longest) (u .longest) .1 (ap (λ (x : LoadModel). x .longest) is)))
 
 below-each : (test : ℕ → Bool) (n : ℕ) → allBelow test n ≡ true → (k : ℕ) → k < n → test k ≡ true
 unfolding allBelow
@@ -60,7 +60,7 @@ pub kept-pairs : (pairs : List (List LoadModel)) (fs : List FlowModel) → keeps
 kept-pairs pairs fs is p q first second =
     same-load _ _
     (below-each (λ y. sameLoad (pairAt pairs p y) (pairOf p y noLoad fs)) 64
-     (below-each (λ x. allBelow (λ y. sameLoad (pairAt pairs x y) (pairOf x y noLoad fs)) 64) 64 is p first) q second)
+    (below-each (λ x. allBelow (λ y. sameLoad (pairAt pairs x y) (pairOf x y noLoad fs)) 64) 64 is p first) q second)
 
 pub pairs-kept : (pairs : List (List LoadModel)) (fs : List FlowModel) → PairsOf pairs fs → keepsPairs pairs fs ≡ true
 pairs-kept pairs fs kept = each-below _ 64 (λ p first. each-below _ 64 (λ q second. load-same _ _ (kept p q first second)))

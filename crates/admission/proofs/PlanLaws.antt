@@ -205,7 +205,7 @@ module _ (net : Net) (ns : List Numbered) (n : Numbered) (loads : Loads) (pairs 
       judged (netOf net) (net .count) (net .switches) (loadsModel us) (pairsModel vs) (gs ++ numberedModel n ∷ []) ≡ refusalOf (netOf net) (gs ++ numberedModel n ∷ [])
   judged-more us vs sum pair =
       let routed : All (Routed (netOf net)) (flowsOf (gs ++ numberedModel n ∷ [])) =
-          subst (All (Routed (netOf net))) (sym more) (all-push (Routed (netOf net)) fs f (all-routed (netOf net) ns roads) (flow-routed (netOf net) (n .flow) leading)) in
+      subst (All (Routed (netOf net))) (sym more) (all-push (Routed (netOf net)) fs f (all-routed (netOf net) ns roads) (flow-routed (netOf net) (n .flow) leading)) in
       ap (λ k. judged (netOf net) k (net .switches) (loadsModel us) (pairsModel vs) (gs ++ numberedModel n ∷ [])) (sym (ports-count net))
       ∙ ap (λ k. judged (netOf net) (length (netOf net .ports)) k (loadsModel us) (pairsModel vs) (gs ++ numberedModel n ∷ [])) (sym (switches-count net))
       ∙ admission-laws .judged (netOf net) (loadsModel us) (pairsModel vs) (gs ++ numberedModel n ∷ []) (ports-few net) routed (sums-more us sum) (pairs-more vs pair)

@@ -57,7 +57,7 @@ road-leads net (p ∷ ps) is =
     let more = road-leads net ps (record { known = is .known .1; once = is .once .1; connected = on .1 }) in
     and-from (stepFits net p ps) (leads net ps)
     (and-from _ _ (lt-ltb p (length (net .ports)) (is .known .0))
-     (and-from _ _ (not-from-false (passes p ps) (all-apart p ps (is .once .0))) (on .0)))
+    (and-from _ _ (not-from-false (passes p ps) (all-apart p ps (is .once .0))) (on .0)))
     more
 
 pub leads-exactly : LeadsExactly

@@ -114,7 +114,12 @@ impl Session {
     }
 
     // What becomes of any record. Without memory nothing changes.
-    fn judge(&mut self, heap: Global, bytes: &[u8], read: Result<Record, Fault>) -> Result<Line, AllocError>
+    fn judge(
+        &mut self,
+        heap: Global,
+        bytes: &[u8],
+        read: Result<Record, Fault>,
+    ) -> Result<Line, AllocError>
         ensures { λ r. ⌜ ByOk r (λ line. (line, standing (now (self .exit))) ≡ becomes (standing (now (self .entry))) (now (bytes .entry)) (verdict recordOf read)) (λ _. standing (now (self .exit)) ≡ standing (now (self .entry))) ⌝ }
     {
         match read {

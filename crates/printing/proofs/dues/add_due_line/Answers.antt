@@ -20,7 +20,7 @@ returns c =
     let first = string-bytes (c .add-due .last .text) in
     let size : length (take hops (d .flow .road)) ≡ hops = length-take-le hops (d .flow .road) (d .flow .«ports_listed») in
     let last : getD (take hops (d .ticks)) (length (take hops (d .flow .road)) - 1) 0 ≡ getD (d .ticks) (hops - 1) 0 =
-        ap (λ n. getD (take hops (d .ticks)) (n - 1) 0) size ∙ getD-take hops (d .ticks) (hops - 1) 0 (omega (arith, d .flow .«hops_some»)) in
+    ap (λ n. getD (take hops (d .ticks)) (n - 1) 0) size ∙ getD-take hops (d .ticks) (hops - 1) 0 (omega (arith, d .flow .«hops_some»)) in
     let whole : hops - 0 ≡ hops = omega arith in
     line-of text first (string-bytes (c .add-ports .last .text)) _ _ _
     (c .in-Continue-add-due .ensures tt ∙ ap (λ due. text ++ dueText (c .args .number) due) (sym last))

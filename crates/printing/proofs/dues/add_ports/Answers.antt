@@ -23,7 +23,7 @@ loop-i-again c =
     let separator = cond (eqb i 0) (codes ":") (codes ",") in
     let step = at-drop-more (λ ps. text ++ portsText separator ps (drop i ticks)) road i 0 (c .loop-i-test .taken) in
     let next = print-port text (string-bytes (c .add-port .last .text)) _ separator (getD road i 0) (getD ticks i 0) (drop (i + 1) road) (drop i ticks)
-        (sym (getD-drop i ticks 0 0 ∙ ap (λ k. getD ticks k 0) (add-zero i))) (c .in-Continue-add-port .ensures tt) (sym step ∙ c .loop-i .inv) in
+    (sym (getD-drop i ticks 0 0 ∙ ap (λ k. getD ticks k 0) (add-zero i))) (c .in-Continue-add-port .ensures tt) (sym step ∙ c .loop-i .inv) in
     rw (ne-eqb (i + 1) 0 (λ e. omega arith), ← (drop-drop 1 i ticks)) next
 
 pub returns : need.returns

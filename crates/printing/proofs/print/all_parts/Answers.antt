@@ -15,7 +15,7 @@ loop-next-again c =
     let rest = stillToCome (c .in-Continue-part .part .rest) in
     let part = string-bytes (c .in-Continue-part .part .text) in
     let added : string-bytes (c .push-str .last .self) ≡ text ++ part =
-        c .in-Continue-push-str .ensures tt .bytes ∙ ap (λ xs. text ++ xs) (c .as-str .ensures .value) in
+    c .in-Continue-push-str .ensures tt .bytes ∙ ap (λ xs. text ++ xs) (c .as-str .ensures .value) in
     ap (λ xs. xs ++ rest) added ∙ append-assoc text part rest ∙ ap (λ xs. text ++ xs) (told-on part (c .in-Continue-part .part .rest) _ (c .in-Continue-part .ensures tt .text))
     ∙ ap (λ o. text ++ stillToCome o) (sym (c .in-Some .is)) ∙ c .loop-next .inv
 

@@ -26,9 +26,11 @@ pub returns-then-len-ge256 : need.returns-then-len-ge256
 returns-then-len-ge256 c =
     let plan = c .args .self .now in
     let ns = vec-items (plan .flows) in
-    let size : c .len .result ≡ length (map numberedModel ns) = c .len .ensures ∙ plan .flows .ok .0 ∙ sym (length-map ns numberedModel) in
-    (tested-on (planOf plan) (numberedModel (c .args .new)) (sym (c .if-not-is-routed .ensures tt))
-     ∙ crowded-with (netOf (plan .net)) (map numberedModel ns) (numberedModel (c .args .new)) (omega (arith, c .if-len-ge256 .taken)), refl)
+    let size : c .len .result ≡ length (map numberedModel ns) = c .len .ensures ∙ plan .flows .ok .0 ∙ sym (length-map ns numberedModel) in (
+      tested-on (planOf plan) (numberedModel (c .args .new)) (sym (c .if-not-is-routed .ensures tt))
+          ∙ crowded-with (netOf (plan .net)) (map numberedModel ns) (numberedModel (c .args .new)) (omega (arith, c .if-len-ge256 .taken)),
+      refl,
+    )
 
 pub returns-in-rest : need.returns-in-rest
 returns-in-rest c =
@@ -67,13 +69,14 @@ returns-in-Some-judge c =
     let leading = sym (c .if-not-is-routed .ensures tt) in
     let back = c .pop .ensures .places .1 ∙ popped ns (vec-items (c .push .last .self)) (c .args .new) _ (c .in-Ok .ensures tt .items) (c .push .last .self .ok .0) in
     let all : map numberedModel (c .as-slice .result .now) ≡ map numberedModel ns ++ numberedModel (c .args .new) ∷ [] =
-        ap (map numberedModel) (c .as-slice .ensures .value) ∙ pushed ns (vec-items (c .push .last .self)) (c .args .new) (c .in-Ok .ensures tt .items) in
-    (tested-on (planOf plan) (numberedModel (c .args .new)) leading
-     ∙ sym (judged-more (plan .net) ns (c .args .new) (plan .loads) (box-value (plan .pairs)) (plan .«loads_kept») (plan .«pairs_kept») (plan .«on_roads») leading
-       (c .in-Some .loads) (c .in-Some-with .pairs) (c .in-Some .ensures tt) (c .in-Some-with .ensures tt ∙ between-is (c .args .new) (c .as-ref .ensures)))
-     ∙ ap (judged (netOf (plan .net)) (plan .net .count) (plan .net .switches) (loadsModel (c .in-Some .loads)) (pairsModel (c .in-Some-with .pairs))) (sym all)
-     ∙ sym (c .in-Some-judge .ensures tt .value),
-     ap (λ xs. record { net = netOf (plan .net); flows = map numberedModel xs }) back)
+    ap (map numberedModel) (c .as-slice .ensures .value) ∙ pushed ns (vec-items (c .push .last .self)) (c .args .new) (c .in-Ok .ensures tt .items) in (
+      tested-on (planOf plan) (numberedModel (c .args .new)) leading
+          ∙ sym (judged-more (plan .net) ns (c .args .new) (plan .loads) (box-value (plan .pairs)) (plan .«loads_kept») (plan .«pairs_kept») (plan .«on_roads») leading
+          (c .in-Some .loads) (c .in-Some-with .pairs) (c .in-Some .ensures tt) (c .in-Some-with .ensures tt ∙ between-is (c .args .new) (c .as-ref .ensures)))
+          ∙ ap (judged (netOf (plan .net)) (plan .net .count) (plan .net .switches) (loadsModel (c .in-Some .loads)) (pairsModel (c .in-Some-with .pairs))) (sym all)
+          ∙ sym (c .in-Some-judge .ensures tt .value),
+      ap (λ xs. record { net = netOf (plan .net); flows = map numberedModel xs }) back,
+    )
 
 pub ghost-self-2 : need.ghost-self-2
 ghost-self-2 c =
@@ -82,20 +85,20 @@ ghost-self-2 c =
     let leading = sym (c .if-not-is-routed .ensures tt) in
     let more = pushed ns (vec-items (c .push .last .self)) (c .args .new) (c .in-Ok .ensures tt .items) in
     let all : map numberedModel (c .as-slice .result .now) ≡ map numberedModel ns ++ numberedModel (c .args .new) ∷ [] =
-        ap (map numberedModel) (c .as-slice .ensures .value) ∙ more in
+    ap (map numberedModel) (c .as-slice .ensures .value) ∙ more in
     let passed =
-        sym (judged-more (plan .net) ns (c .args .new) (plan .loads) (box-value (plan .pairs)) (plan .«loads_kept») (plan .«pairs_kept») (plan .«on_roads») leading
-         (c .in-Some .loads) (c .in-Some-with .pairs) (c .in-Some .ensures tt) (c .in-Some-with .ensures tt ∙ between-is (c .args .new) (c .as-ref .ensures)))
-        ∙ ap (judged (netOf (plan .net)) (plan .net .count) (plan .net .switches) (loadsModel (c .in-Some .loads)) (pairsModel (c .in-Some-with .pairs))) (sym all)
-        ∙ sym (c .in-rest-judge .ensures tt .value) in (
+    sym (judged-more (plan .net) ns (c .args .new) (plan .loads) (box-value (plan .pairs)) (plan .«loads_kept») (plan .«pairs_kept») (plan .«on_roads») leading
+    (c .in-Some .loads) (c .in-Some-with .pairs) (c .in-Some .ensures tt) (c .in-Some-with .ensures tt ∙ between-is (c .args .new) (c .as-ref .ensures)))
+    ∙ ap (judged (netOf (plan .net)) (plan .net .count) (plan .net .switches) (loadsModel (c .in-Some .loads)) (pairsModel (c .in-Some-with .pairs))) (sym all)
+    ∙ sym (c .in-rest-judge .ensures tt .value) in (
       ap (λ gs. keepsLoads (loadsModel (c .in-Some .loads)) (flowsOf gs)) more
-      ∙ loads-kept _ _ (sums-more (plan .net) ns (c .args .new) (plan .loads) (box-value (plan .pairs)) (plan .«loads_kept») (plan .«pairs_kept») (plan .«on_roads») leading (c .in-Some .loads) (c .in-Some .ensures tt)),
+          ∙ loads-kept _ _ (sums-more (plan .net) ns (c .args .new) (plan .loads) (box-value (plan .pairs)) (plan .«loads_kept») (plan .«pairs_kept») (plan .«on_roads») leading (c .in-Some .loads) (c .in-Some .ensures tt)),
       (
         ap (λ gs. keepsPairs (pairsModel (c .in-Some-with .pairs)) (flowsOf gs)) more
-        ∙ pairs-kept _ _ (pairs-more (plan .net) ns (c .args .new) (plan .loads) (box-value (plan .pairs)) (plan .«loads_kept») (plan .«pairs_kept») (plan .«on_roads») leading (c .in-Some-with .pairs) (c .in-Some-with .ensures tt ∙ between-is (c .args .new) (c .as-ref .ensures))),
+            ∙ pairs-kept _ _ (pairs-more (plan .net) ns (c .args .new) (plan .loads) (box-value (plan .pairs)) (plan .«loads_kept») (plan .«pairs_kept») (plan .«on_roads») leading (c .in-Some-with .pairs) (c .in-Some-with .ensures tt ∙ between-is (c .args .new) (c .as-ref .ensures))),
         (
           ap (λ gs. allRoads (netOf (plan .net)) (flowsOf gs)) more
-          ∙ roads-more (plan .net) ns (c .args .new) (plan .loads) (box-value (plan .pairs)) (plan .«loads_kept») (plan .«pairs_kept») (plan .«on_roads») leading,
+              ∙ roads-more (plan .net) ns (c .args .new) (plan .loads) (box-value (plan .pairs)) (plan .«loads_kept») (plan .«pairs_kept») (plan .«on_roads») leading,
           (ap (passesAll (netOf (plan .net))) more ∙ ap isNone passed, tt),
         ),
       ),
@@ -108,10 +111,11 @@ returns c =
     let leading = sym (c .if-not-is-routed .ensures tt) in
     let more = pushed ns (vec-items (c .push .last .self)) (c .args .new) (c .in-Ok .ensures tt .items) in
     let all : map numberedModel (c .as-slice .result .now) ≡ map numberedModel ns ++ numberedModel (c .args .new) ∷ [] =
-        ap (map numberedModel) (c .as-slice .ensures .value) ∙ more in
-    (tested-on (planOf plan) (numberedModel (c .args .new)) leading
-     ∙ sym (judged-more (plan .net) ns (c .args .new) (plan .loads) (box-value (plan .pairs)) (plan .«loads_kept») (plan .«pairs_kept») (plan .«on_roads») leading
-       (c .in-Some .loads) (c .in-Some-with .pairs) (c .in-Some .ensures tt) (c .in-Some-with .ensures tt ∙ between-is (c .args .new) (c .as-ref .ensures)))
-     ∙ ap (judged (netOf (plan .net)) (plan .net .count) (plan .net .switches) (loadsModel (c .in-Some .loads)) (pairsModel (c .in-Some-with .pairs))) (sym all)
-     ∙ sym (c .in-rest-judge .ensures tt .value),
-     ap (λ gs. record { net = netOf (plan .net); flows = gs }) more)
+    ap (map numberedModel) (c .as-slice .ensures .value) ∙ more in (
+      tested-on (planOf plan) (numberedModel (c .args .new)) leading
+          ∙ sym (judged-more (plan .net) ns (c .args .new) (plan .loads) (box-value (plan .pairs)) (plan .«loads_kept») (plan .«pairs_kept») (plan .«on_roads») leading
+          (c .in-Some .loads) (c .in-Some-with .pairs) (c .in-Some .ensures tt) (c .in-Some-with .ensures tt ∙ between-is (c .args .new) (c .as-ref .ensures)))
+          ∙ ap (judged (netOf (plan .net)) (plan .net .count) (plan .net .switches) (loadsModel (c .in-Some .loads)) (pairsModel (c .in-Some-with .pairs))) (sym all)
+          ∙ sym (c .in-rest-judge .ensures tt .value),
+      ap (λ gs. record { net = netOf (plan .net); flows = gs }) more,
+    )

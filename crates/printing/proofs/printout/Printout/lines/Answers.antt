@@ -27,11 +27,12 @@ loop-piece-less c = next-shorter _ _ _ (sym (c .in-Some .ensures tt .value))
 
 pub loop-piece-again : need.loop-piece-again
 loop-piece-again c =
-    let less = next-shorter (c .loop-piece .self .records .rest .now) _ _ (sym (c .in-Some .ensures tt .value)) in
-    (print-next (planOf (c .loop-piece .self .plan)) (string-bytes (c .loop-piece .text)) _ _ (standing (c .loop-piece .self .session))
+    let less = next-shorter (c .loop-piece .self .records .rest .now) _ _ (sym (c .in-Some .ensures tt .value)) in (
+      print-next (planOf (c .loop-piece .self .plan)) (string-bytes (c .loop-piece .text)) _ _ (standing (c .loop-piece .self .session))
           (c .in-Continue-line .line, standing (c .take .last .self)) _ _ _
           (c .in-Some .ensures tt .value) (c .in-Continue-line .ensures tt .value) (c .in-Continue-add-line .ensures tt) (c .loop-piece .inv .0),
-     omega (arith, less, c .loop-piece .inv .1))
+      omega (arith, less, c .loop-piece .inv .1),
+    )
 
 pub returns : need.returns
 returns c = record {
