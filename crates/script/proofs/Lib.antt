@@ -1,1 +1,2 @@
 mod StepLaws
+mod PlanLaws

@@ -7,7 +7,7 @@ ghost use Rattle.flows.specs.Models.{netOf, flowOf};
 ghost use Rattle.records.specs.Records.{recordOf};
 ghost use Rattle.bytes.specs.Answers.{extent, verdict};
 ghost use Rattle.script.specs.Models.{standing};
-ghost use Rattle.script.specs.SessionLaws.{RefusedOnlyCounts, CutIsRefused};
+ghost use Rattle.script.specs.SessionLaws.{RefusedOnlyCounts, CutIsRefused, AdmittedStays, PlanSettled};
 ghost use Rattle.admission.specs.Dues.{flowNumbered};
 ghost use Rattle.script.specs.Session.{lengthFits, portFits, packetFits, arrivalFits, takePacket, takeRecord, becomes, counted, takesNumber, readAs, step};
 use super::line::Cause;
@@ -133,7 +133,7 @@ impl Session {
 
     // What a record is read as where the program stands. The laws are those of what becomes of it.
     fn read_here(&self, piece: Piece) -> Result<Record, Fault>
-        ensures laws { λ _. ⌜ RefusedOnlyCounts × CutIsRefused ⌝ }
+        ensures laws { λ _. ⌜ RefusedOnlyCounts × CutIsRefused × AdmittedStays × PlanSettled ⌝ }
         ensures value { λ r. ⌜ verdict recordOf r ≡ readAs (standing (now (self .entry))) (extent (piece .entry)) ⌝ }
     {
         let least = self.least_switches();
@@ -142,7 +142,7 @@ impl Session {
 
     // One record of the input, and what is said of it. Without memory nothing changes.
     pub fn take(&mut self, heap: Global, piece: Piece) -> Result<Line, AllocError>
-        ensures laws { λ _. ⌜ RefusedOnlyCounts × CutIsRefused ⌝ }
+        ensures laws { λ _. ⌜ RefusedOnlyCounts × CutIsRefused × AdmittedStays × PlanSettled ⌝ }
         ensures value { λ r. ⌜ ByOk r (λ line. (line, standing (now (self .exit))) ≡ step (standing (now (self .entry))) (extent (piece .entry))) (λ _. standing (now (self .exit)) ≡ standing (now (self .entry))) ⌝ }
     {
         let read = self.read_here(piece);

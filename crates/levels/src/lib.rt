@@ -1,0 +1,4 @@
+// Levels: what flows may still send into queues, and when.
+pub mod level;
+mod product;
+pub mod refill;
