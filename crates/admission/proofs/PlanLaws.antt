@@ -7,6 +7,8 @@ use native.Mathlib.Nat.{zero-add}
 use native.Mathlib.Omega.{arith}
 use lib.Dec.{eqb, ltb}
 use lib.ListN.{length, getD, take, length-map, length-append}
+use Rattle.std.specs.Of.Box.{box-value}
+use Rattle.std.specs.Of.Vec.{vec-items}
 use Rattle.std.specs.shelf.Lists.{All}
 use Rattle.std.specs.declared.option.Option.{Option}
 use Rattle.std.specs.declared.option.Option.the-variants.{Some, None}
@@ -31,6 +33,7 @@ use Rattle.promises.proofs.TableLaws.{table-kept}
 use Rattle.promises.proofs.PairLaws.{pairs-kept}
 use Rattle.promises.proofs.FitLaws.{sums-fit, pairs-fit}
 use Rattle.memory.specs.Plans.{classPlan, regulatorPlan, portPlan, switchPlan}
+use Rattle.admission.specs.declared.plan.Plan.{Plan}
 use Rattle.admission.specs.declared.refusal.Numbered.{Numbered}
 use Rattle.admission.specs.declared.refusal.Refusal.{Refusal}
 use Rattle.admission.specs.declared.refusal.Refusal.the-variants.{Crowded}
@@ -128,12 +131,24 @@ rows (t ∷ tables) (suc p) less = rows tables p (omega arith)
 pub crowded-with : (net : NetModel) (gs : List NumberedModel) (g : NumberedModel) → 256 ≤ length gs → refusalOf net (gs ++ g ∷ []) ≡ Some Crowded
 crowded-with net gs g many = let size = length-push gs g in rw (lt-ltb 256 (length (gs ++ g ∷ [])) (omega arith)) refl
 
+-- a flow that was pushed
+pub pushed : (xs ys : List Numbered) (n : Numbered) → ys ≡ xs ++ n ∷ [] → map numberedModel ys ≡ map numberedModel xs ++ numberedModel n ∷ []
+pushed xs ys n is = ap (map numberedModel) is ∙ map-append numberedModel xs (n ∷ [])
+
 -- A plan, and a flow more with a road through its net.
-module _ (net : Net) (ns : List Numbered) (n : Numbered) (loads : Loads) (pairs : Pairs)
-    (sums : keepsLoads (loadsModel loads) (flowsOf (map numberedModel ns)) ≡ true)
-    (between : keepsPairs (pairsModel pairs) (flowsOf (map numberedModel ns)) ≡ true)
-    (roads : allRoads (netOf net) (flowsOf (map numberedModel ns)) ≡ true)
-    (leading : leads (netOf net) (flowOf (n .flow) .road) ≡ true) where
+module _ (plan : Plan) (n : Numbered) (leading : leads (netOf (plan .net)) (flowOf (n .flow) .road) ≡ true) where
+  abbrev net : Net
+  net = plan .net
+
+  abbrev loads : Loads
+  loads = plan .loads
+
+  abbrev pairs : Pairs
+  pairs = box-value (plan .pairs)
+
+  abbrev ns : List Numbered
+  ns = vec-items (plan .flows)
+
   abbrev gs : List NumberedModel
   gs = map numberedModel ns
 
@@ -158,7 +173,7 @@ module _ (net : Net) (ns : List Numbered) (n : Numbered) (loads : Loads) (pairs 
   pub sums-told : length gs ≤ 255 → None ≡ loadsWith f (f .road) (loadsModel loads) → ⊥
   sums-told few none =
       let fit = sums-fit (loadsModel loads) fs f (all-bounded ns) (flow-bounded (n .flow)) (route .once) low-ports (few-flows few)
-      (keep.kept-loads (loadsModel loads) fs sums) in
+      (keep.kept-loads (loadsModel loads) fs (plan .«loads_kept»)) in
       no-some (fit .0) (none ∙ fit .1)
     where
       no-some : (us : List LoadModel) → _≡_ {A = Option (List LoadModel)} None (Some us) → ⊥
@@ -167,7 +182,7 @@ module _ (net : Net) (ns : List Numbered) (n : Numbered) (loads : Loads) (pairs 
   pub pairs-told : length gs ≤ 255 → None ≡ pairsWith f (f .road) (pairsModel pairs) → ⊥
   pairs-told few none =
       let fit = pairs-fit (pairsModel pairs) fs f (all-bounded ns) (flow-bounded (n .flow)) (route .once) low-ports (few-flows few)
-      (keep.kept-pairs (pairsModel pairs) fs between) in
+      (keep.kept-pairs (pairsModel pairs) fs (plan .«pairs_kept»)) in
       no-some (fit .0) (none ∙ fit .1)
     where
       no-some : (us : List (List LoadModel)) → _≡_ {A = Option (List (List LoadModel))} None (Some us) → ⊥
@@ -189,15 +204,15 @@ module _ (net : Net) (ns : List Numbered) (n : Numbered) (loads : Loads) (pairs 
   pub sums-more : (us : Loads) → Some (loadsModel us) ≡ loadsWith f (f .road) (loadsModel loads) → Kept (loadsModel us) (flowsOf (gs ++ numberedModel n ∷ []))
   sums-more us is =
       subst (Kept (loadsModel us)) (sym more)
-      (table-kept (loadsModel loads) (loadsModel us) fs f sizes (route .once) low-ports (keep.kept-loads (loadsModel loads) fs sums) (sym is))
+      (table-kept (loadsModel loads) (loadsModel us) fs f sizes (route .once) low-ports (keep.kept-loads (loadsModel loads) fs (plan .«loads_kept»)) (sym is))
 
   pub pairs-more : (us : Pairs) → Some (pairsModel us) ≡ pairsWith f (f .road) (pairsModel pairs) → PairsOf (pairsModel us) (flowsOf (gs ++ numberedModel n ∷ []))
   pairs-more us is =
       subst (PairsOf (pairsModel us)) (sym more)
-      (pairs-kept (pairsModel pairs) (pairsModel us) fs f square (route .once) low-ports (keep.kept-pairs (pairsModel pairs) fs between) (sym is) .1)
+      (pairs-kept (pairsModel pairs) (pairsModel us) fs f square (route .once) low-ports (keep.kept-pairs (pairsModel pairs) fs (plan .«pairs_kept»)) (sym is) .1)
 
   pub roads-more : allRoads (netOf net) (flowsOf (gs ++ numberedModel n ∷ [])) ≡ true
-  roads-more = ap (allRoads (netOf net)) more ∙ keep.roads-more (netOf net) fs f roads leading
+  roads-more = ap (allRoads (netOf net)) more ∙ keep.roads-more (netOf net) fs f (plan .«on_roads») leading
 
   -- the tests by the sums are those of the rules
   pub judged-more : (us : Loads) (vs : Pairs) → Some (loadsModel us) ≡ loadsWith f (f .road) (loadsModel loads) →
@@ -205,15 +220,22 @@ module _ (net : Net) (ns : List Numbered) (n : Numbered) (loads : Loads) (pairs 
       judged (netOf net) (net .count) (net .switches) (loadsModel us) (pairsModel vs) (gs ++ numberedModel n ∷ []) ≡ refusalOf (netOf net) (gs ++ numberedModel n ∷ [])
   judged-more us vs sum pair =
       let routed : All (Routed (netOf net)) (flowsOf (gs ++ numberedModel n ∷ [])) =
-      subst (All (Routed (netOf net))) (sym more) (all-push (Routed (netOf net)) fs f (all-routed (netOf net) ns roads) (flow-routed (netOf net) (n .flow) leading)) in
+      subst (All (Routed (netOf net))) (sym more) (all-push (Routed (netOf net)) fs f (all-routed (netOf net) ns (plan .«on_roads»)) (flow-routed (netOf net) (n .flow) leading)) in
       ap (λ k. judged (netOf net) k (net .switches) (loadsModel us) (pairsModel vs) (gs ++ numberedModel n ∷ [])) (sym (ports-count net))
       ∙ ap (λ k. judged (netOf net) (length (netOf net .ports)) k (loadsModel us) (pairsModel vs) (gs ++ numberedModel n ∷ [])) (sym (switches-count net))
       ∙ admission-laws .judged (netOf net) (loadsModel us) (pairsModel vs) (gs ++ numberedModel n ∷ []) (ports-few net) routed (sums-more us sum) (pairs-more vs pair)
 
--- a flow that was pushed, and popped again
-pub pushed : (xs ys : List Numbered) (n : Numbered) → ys ≡ xs ++ n ∷ [] → map numberedModel ys ≡ map numberedModel xs ++ numberedModel n ∷ []
-pushed xs ys n is = ap (map numberedModel) is ∙ map-append numberedModel xs (n ∷ [])
+  -- what was judged of the flows with it is what the rules say
+  pub judged-tested : (us : Loads) (vs : Pairs) → Some (loadsModel us) ≡ loadsWith f (f .road) (loadsModel loads) →
+      Some (pairsModel vs) ≡ pairsWith f (f .road) (pairsModel pairs) → (ys zs : List Numbered) → zs ≡ ys → ys ≡ ns ++ n ∷ [] → (r : Option Refusal) →
+      r ≡ judged (netOf net) (net .count) (net .switches) (loadsModel us) (pairsModel vs) (map numberedModel zs) →
+      refusalOf (netOf net) (gs ++ numberedModel n ∷ []) ≡ r
+  judged-tested us vs sum pair ys zs same is r told =
+      sym (judged-more us vs sum pair)
+      ∙ ap (judged (netOf net) (net .count) (net .switches) (loadsModel us) (pairsModel vs)) (sym (ap (map numberedModel) same ∙ pushed ns ys n is))
+      ∙ sym told
 
+-- and popped again
 pub popped : (xs ys : List Numbered) (n : Numbered) (k : ℕ) → ys ≡ xs ++ n ∷ [] → k ≡ length ys → take (k - 1) ys ≡ xs
 popped xs ys n k is size =
     let long = length-push xs n in

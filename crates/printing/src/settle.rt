@@ -21,7 +21,11 @@ pub fn settle(heap: Global, program: Program, input: &[u8]) -> Result<Session, A
 }
 
 // Once standstill has ended, no flow is known any more, and the rest of the input is left alone.
-fn take_flows(heap: Global, mut session: Session, mut records: Records) -> Result<Session, AllocError>
+fn take_flows(
+    heap: Global,
+    mut session: Session,
+    mut records: Records,
+) -> Result<Session, AllocError>
     ensures { λ r. ⌜ made r (λ s. planOf (s .plan) ≡ afterAll (standing session) (row (now (records .entry .rest))) .plan) ⌝ }
 {
     while let Some(piece) = records.next() {

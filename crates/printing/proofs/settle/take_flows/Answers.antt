@@ -17,7 +17,7 @@ loop-piece-again c =
 pub returns-in-Running : need.returns-in-Running
 returns-in-Running c =
     let so-far = all-next (standing (c .loop-piece .session)) (c .in-Continue-take .field-0, standing (c .take .last .self)) _ _ _ _
-        (c .in-Some .ensures tt .value) (c .in-Continue-take .ensures tt .value) (c .loop-piece .inv) in
+    (c .in-Some .ensures tt .value) (c .in-Continue-take .ensures tt .value) (c .loop-piece .inv) in
     let settled = c .in-Continue-take .ensures tt .laws .3 in
     sym (settled (standing (c .take .last .self)) (row (c .next .last .self .rest .now)) (c .in-Running .is)) ∙ ap (λ (s : Standing). s .plan) so-far
 

@@ -1,21 +1,20 @@
-use mathlib.Core.Path.{_≡_, refl, sym, ap, subst, _∙_}
-use mathlib.Core.List.{List, map, _∷_, [], _++_}
+use mathlib.Core.Path.{_≡_, refl, sym, ap, _∙_}
+use mathlib.Core.List.{map}
 use native.Mathlib.Omega.{arith}
 use lib.ListN.{length, length-map}
 use Rattle.std.specs.Of.Box.{box-value}
-use Rattle.std.specs.Of.Vec.{vec-items, vec-len}
+use Rattle.std.specs.Of.Vec.{vec-items}
 use Rattle.flows.specs.Models.{netOf, flowOf}
 use Rattle.promises.specs.declared.pairs.Pairs.{Pairs}
 use Rattle.promises.specs.Loads.{pairsWith}
 use Rattle.promises.specs.Models.{loadsModel, pairsModel}
 use Rattle.admission.specs.declared.refusal.Numbered.{Numbered}
 use Rattle.admission.specs.Models.{numberedModel}
-use Rattle.admission.specs.Tests.{NumberedModel, judged}
-use Rattle.admission.specs.Rules.{flowsOf, refusalOf}
+use Rattle.admission.specs.Rules.{flowsOf}
 use Rattle.admission.specs.Sound.{keepsLoads, keepsPairs, allRoads, isNone, passesAll}
-use Rattle.admission.specs.Plans.{PlanModel, planOf}
+use Rattle.admission.specs.Plans.{planOf}
 use Rattle.admission.proofs.KeepLaws.{loads-kept, pairs-kept}
-use Rattle.admission.proofs.PlanLaws.{crowded-with, sums-told, pairs-told, sums-more, pairs-more, roads-more, judged-more, pushed, popped, tested-on}
+use Rattle.admission.proofs.PlanLaws.{crowded-with, sums-told, pairs-told, sums-more, pairs-more, roads-more, judged-tested, pushed, popped, tested-on}
 use Rattle.admission.proofs.plan.Plan.try_admit.Needs as need
 
 between-is : (n : Numbered) {p q : Pairs} → p ≡ q →
@@ -26,27 +25,24 @@ pub returns-then-len-ge256 : need.returns-then-len-ge256
 returns-then-len-ge256 c =
     let plan = c .args .self .now in
     let ns = vec-items (plan .flows) in
-    let size : c .len .result ≡ length (map numberedModel ns) = c .len .ensures ∙ plan .flows .ok .0 ∙ sym (length-map ns numberedModel) in (
-      tested-on (planOf plan) (numberedModel (c .args .new)) (sym (c .if-not-is-routed .ensures tt))
-          ∙ crowded-with (netOf (plan .net)) (map numberedModel ns) (numberedModel (c .args .new)) (omega (arith, c .if-len-ge256 .taken)),
-      refl,
-    )
+    let size : c .len .result ≡ length (map numberedModel ns) = c .len .ensures ∙ plan .flows .ok .0 ∙ sym (length-map ns numberedModel) in
+    let crowded = crowded-with (netOf (plan .net)) (map numberedModel ns) (numberedModel (c .args .new)) (omega (arith, c .if-len-ge256 .taken)) in
+    (tested-on (planOf plan) (numberedModel (c .args .new)) (sym (c .if-not-is-routed .ensures tt)) ∙ crowded, refl)
 
 pub returns-in-rest : need.returns-in-rest
 returns-in-rest c =
     let plan = c .args .self .now in
     let ns = vec-items (plan .flows) in
     let size : c .len .result ≡ length (map numberedModel ns) = c .len .ensures ∙ plan .flows .ok .0 ∙ sym (length-map ns numberedModel) in
-    absurd (sums-told (plan .net) ns (c .args .new) (plan .loads) (box-value (plan .pairs)) (plan .«loads_kept») (plan .«pairs_kept») (plan .«on_roads»)
-    (sym (c .if-not-is-routed .ensures tt)) (omega (arith, c .if-len-ge256 .left)) (c .in-rest .ensures tt))
+    absurd (sums-told plan (c .args .new) (sym (c .if-not-is-routed .ensures tt)) (omega (arith, c .if-len-ge256 .left)) (c .in-rest .ensures tt))
 
 pub returns-in-rest-with : need.returns-in-rest-with
 returns-in-rest-with c =
     let plan = c .args .self .now in
     let ns = vec-items (plan .flows) in
     let size : c .len .result ≡ length (map numberedModel ns) = c .len .ensures ∙ plan .flows .ok .0 ∙ sym (length-map ns numberedModel) in
-    absurd (pairs-told (plan .net) ns (c .args .new) (plan .loads) (box-value (plan .pairs)) (plan .«loads_kept») (plan .«pairs_kept») (plan .«on_roads»)
-    (sym (c .if-not-is-routed .ensures tt)) (omega (arith, c .if-len-ge256 .left)) (c .in-rest-with .ensures tt ∙ between-is (c .args .new) (c .as-ref .ensures)))
+    let none = c .in-rest-with .ensures tt ∙ between-is (c .args .new) (c .as-ref .ensures) in
+    absurd (pairs-told plan (c .args .new) (sym (c .if-not-is-routed .ensures tt)) (omega (arith, c .if-len-ge256 .left)) none)
 
 pub ghost-self-in-Some-judge : need.ghost-self-in-Some-judge
 ghost-self-in-Some-judge c =
@@ -65,40 +61,29 @@ ghost-self-in-Some-judge c =
 pub returns-in-Some-judge : need.returns-in-Some-judge
 returns-in-Some-judge c =
     let plan = c .args .self .now in
-    let ns = vec-items (plan .flows) in
     let leading = sym (c .if-not-is-routed .ensures tt) in
-    let back = c .pop .ensures .places .1 ∙ popped ns (vec-items (c .push .last .self)) (c .args .new) _ (c .in-Ok .ensures tt .items) (c .push .last .self .ok .0) in
-    let all : map numberedModel (c .as-slice .result .now) ≡ map numberedModel ns ++ numberedModel (c .args .new) ∷ [] =
-    ap (map numberedModel) (c .as-slice .ensures .value) ∙ pushed ns (vec-items (c .push .last .self)) (c .args .new) (c .in-Ok .ensures tt .items) in (
-      tested-on (planOf plan) (numberedModel (c .args .new)) leading
-          ∙ sym (judged-more (plan .net) ns (c .args .new) (plan .loads) (box-value (plan .pairs)) (plan .«loads_kept») (plan .«pairs_kept») (plan .«on_roads») leading
-          (c .in-Some .loads) (c .in-Some-with .pairs) (c .in-Some .ensures tt) (c .in-Some-with .ensures tt ∙ between-is (c .args .new) (c .as-ref .ensures)))
-          ∙ ap (judged (netOf (plan .net)) (plan .net .count) (plan .net .switches) (loadsModel (c .in-Some .loads)) (pairsModel (c .in-Some-with .pairs))) (sym all)
-          ∙ sym (c .in-Some-judge .ensures tt .value),
-      ap (λ xs. record { net = netOf (plan .net); flows = map numberedModel xs }) back,
-    )
+    let back = c .pop .ensures .places .1 ∙ popped (vec-items (plan .flows)) (vec-items (c .push .last .self)) (c .args .new) _ (c .in-Ok .ensures tt .items) (c .push .last .self .ok .0) in
+    let told = judged-tested plan (c .args .new) leading (c .in-Some .loads) (c .in-Some-with .pairs) (c .in-Some .ensures tt)
+    (c .in-Some-with .ensures tt ∙ between-is (c .args .new) (c .as-ref .ensures)) (vec-items (c .push .last .self)) (c .as-slice .result .now)
+    (c .as-slice .ensures .value) (c .in-Ok .ensures tt .items) _ (c .in-Some-judge .ensures tt .value) in
+    (tested-on (planOf plan) (numberedModel (c .args .new)) leading ∙ told, ap (λ xs. record { net = netOf (plan .net); flows = map numberedModel xs }) back)
 
 pub ghost-self-2 : need.ghost-self-2
 ghost-self-2 c =
     let plan = c .args .self .now in
-    let ns = vec-items (plan .flows) in
     let leading = sym (c .if-not-is-routed .ensures tt) in
-    let more = pushed ns (vec-items (c .push .last .self)) (c .args .new) (c .in-Ok .ensures tt .items) in
-    let all : map numberedModel (c .as-slice .result .now) ≡ map numberedModel ns ++ numberedModel (c .args .new) ∷ [] =
-    ap (map numberedModel) (c .as-slice .ensures .value) ∙ more in
-    let passed =
-    sym (judged-more (plan .net) ns (c .args .new) (plan .loads) (box-value (plan .pairs)) (plan .«loads_kept») (plan .«pairs_kept») (plan .«on_roads») leading
-    (c .in-Some .loads) (c .in-Some-with .pairs) (c .in-Some .ensures tt) (c .in-Some-with .ensures tt ∙ between-is (c .args .new) (c .as-ref .ensures)))
-    ∙ ap (judged (netOf (plan .net)) (plan .net .count) (plan .net .switches) (loadsModel (c .in-Some .loads)) (pairsModel (c .in-Some-with .pairs))) (sym all)
-    ∙ sym (c .in-rest-judge .ensures tt .value) in (
+    let between = c .in-Some-with .ensures tt ∙ between-is (c .args .new) (c .as-ref .ensures) in
+    let more = pushed (vec-items (plan .flows)) (vec-items (c .push .last .self)) (c .args .new) (c .in-Ok .ensures tt .items) in
+    let passed = judged-tested plan (c .args .new) leading (c .in-Some .loads) (c .in-Some-with .pairs) (c .in-Some .ensures tt) between
+    (vec-items (c .push .last .self)) (c .as-slice .result .now) (c .as-slice .ensures .value) (c .in-Ok .ensures tt .items) _
+    (c .in-rest-judge .ensures tt .value) in (
       ap (λ gs. keepsLoads (loadsModel (c .in-Some .loads)) (flowsOf gs)) more
-          ∙ loads-kept _ _ (sums-more (plan .net) ns (c .args .new) (plan .loads) (box-value (plan .pairs)) (plan .«loads_kept») (plan .«pairs_kept») (plan .«on_roads») leading (c .in-Some .loads) (c .in-Some .ensures tt)),
+          ∙ loads-kept _ _ (sums-more plan (c .args .new) leading (c .in-Some .loads) (c .in-Some .ensures tt)),
       (
         ap (λ gs. keepsPairs (pairsModel (c .in-Some-with .pairs)) (flowsOf gs)) more
-            ∙ pairs-kept _ _ (pairs-more (plan .net) ns (c .args .new) (plan .loads) (box-value (plan .pairs)) (plan .«loads_kept») (plan .«pairs_kept») (plan .«on_roads») leading (c .in-Some-with .pairs) (c .in-Some-with .ensures tt ∙ between-is (c .args .new) (c .as-ref .ensures))),
+            ∙ pairs-kept _ _ (pairs-more plan (c .args .new) leading (c .in-Some-with .pairs) between),
         (
-          ap (λ gs. allRoads (netOf (plan .net)) (flowsOf gs)) more
-              ∙ roads-more (plan .net) ns (c .args .new) (plan .loads) (box-value (plan .pairs)) (plan .«loads_kept») (plan .«pairs_kept») (plan .«on_roads») leading,
+          ap (λ gs. allRoads (netOf (plan .net)) (flowsOf gs)) more ∙ roads-more plan (c .args .new) leading,
           (ap (passesAll (netOf (plan .net))) more ∙ ap isNone passed, tt),
         ),
       ),
@@ -107,15 +92,9 @@ ghost-self-2 c =
 pub returns : need.returns
 returns c =
     let plan = c .args .self .now in
-    let ns = vec-items (plan .flows) in
     let leading = sym (c .if-not-is-routed .ensures tt) in
-    let more = pushed ns (vec-items (c .push .last .self)) (c .args .new) (c .in-Ok .ensures tt .items) in
-    let all : map numberedModel (c .as-slice .result .now) ≡ map numberedModel ns ++ numberedModel (c .args .new) ∷ [] =
-    ap (map numberedModel) (c .as-slice .ensures .value) ∙ more in (
-      tested-on (planOf plan) (numberedModel (c .args .new)) leading
-          ∙ sym (judged-more (plan .net) ns (c .args .new) (plan .loads) (box-value (plan .pairs)) (plan .«loads_kept») (plan .«pairs_kept») (plan .«on_roads») leading
-          (c .in-Some .loads) (c .in-Some-with .pairs) (c .in-Some .ensures tt) (c .in-Some-with .ensures tt ∙ between-is (c .args .new) (c .as-ref .ensures)))
-          ∙ ap (judged (netOf (plan .net)) (plan .net .count) (plan .net .switches) (loadsModel (c .in-Some .loads)) (pairsModel (c .in-Some-with .pairs))) (sym all)
-          ∙ sym (c .in-rest-judge .ensures tt .value),
-      ap (λ gs. record { net = netOf (plan .net); flows = gs }) more,
-    )
+    let more = pushed (vec-items (plan .flows)) (vec-items (c .push .last .self)) (c .args .new) (c .in-Ok .ensures tt .items) in
+    let told = judged-tested plan (c .args .new) leading (c .in-Some .loads) (c .in-Some-with .pairs) (c .in-Some .ensures tt)
+    (c .in-Some-with .ensures tt ∙ between-is (c .args .new) (c .as-ref .ensures)) (vec-items (c .push .last .self)) (c .as-slice .result .now)
+    (c .as-slice .ensures .value) (c .in-Ok .ensures tt .items) _ (c .in-rest-judge .ensures tt .value) in
+    (tested-on (planOf plan) (numberedModel (c .args .new)) leading ∙ told, ap (λ gs. record { net = netOf (plan .net); flows = gs }) more)
