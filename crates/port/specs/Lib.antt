@@ -1,0 +1,3 @@
+pub mod Port
+pub mod Examples
+pub mod Laws

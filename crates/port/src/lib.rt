@@ -1,0 +1,2 @@
+// One port: what it takes and sends.
+pub mod gone;
