@@ -11,7 +11,7 @@ use lib.Dec.{eqb}
 use lib.ListN.{length, getD, set}
 use Rattle.std.proofs.shelf.Lists.{getD-set-same, getD-set-other, set-past}
 use Rattle.std.proofs.shelf.Tests.{cases-eq, cases-lt, eq-eqb, ne-eqb}
-use Rattle.queues.specs.declared.cell.Packet.{Packet}
+use Rattle.lines.specs.declared.packet.Packet.{Packet}
 use Rattle.queues.specs.declared.cell.Cell.{Cell}
 use Rattle.queues.specs.Lines.{sumTo, sumOver}
 use Rattle.queues.specs.Held.{noCell, packetAt, nextAt, places, lastOf, occurs}

@@ -12,7 +12,7 @@ use Rattle.std.specs.shelf.Lists.{All}
 use Rattle.std.proofs.shelf.Lists.{getD-set-same, getD-set-other, length-set, length-map, map-push}
 use Rattle.std.proofs.shelf.Elements.{all-push}
 use Rattle.std.proofs.shelf.Tests.{le-leb, lt-ltb, le-ltb, and-from, and-right}
-use Rattle.queues.specs.declared.cell.Packet.{Packet}
+use Rattle.lines.specs.declared.packet.Packet.{Packet}
 use Rattle.queues.specs.declared.cell.Cell.{Cell}
 use Rattle.queues.specs.declared.queues_of.Queues.{Queues}
 use Rattle.queues.specs.Lines.{ticksOf, sumTo, packetsIn, putIn}

@@ -5,7 +5,7 @@ use Prim.Native.Nat.{ℕ, zero, suc, _+_, _-_, _<_}
 use native.Mathlib.Omega.{arith}
 use lib.ListN.{length, getD, set}
 use Rattle.std.proofs.shelf.Lists.{ext-getD, length-push}
-use Rattle.queues.specs.declared.cell.Packet.{Packet}
+use Rattle.lines.specs.declared.packet.Packet.{Packet}
 use Rattle.queues.specs.declared.cell.Cell.{Cell}
 use Rattle.queues.specs.declared.queues_of.Queues.{Queues}
 use Rattle.queues.specs.declared.queues_of.Taken.the-variants.{Packet as taken, Nothing}

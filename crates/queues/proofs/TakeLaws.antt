@@ -7,7 +7,7 @@ use native.Mathlib.Omega.{arith}
 use lib.ListN.{length, getD, set}
 use Rattle.std.specs.shelf.Lists.{All}
 use Rattle.std.proofs.shelf.Lists.{getD-set-same, getD-set-other, length-set}
-use Rattle.queues.specs.declared.cell.Packet.{Packet}
+use Rattle.lines.specs.declared.packet.Packet.{Packet}
 use Rattle.queues.specs.declared.cell.Cell.{Cell}
 use Rattle.queues.specs.declared.queues_of.Queues.{Queues}
 use Rattle.queues.specs.declared.queues_of.Taken.the-variants.{Packet as taken, Nothing}

@@ -6,7 +6,7 @@ use Prim.Native.Nat.{ℕ, zero, suc, _+_, _≤_, _<_, min}
 use lib.Dec.{eqb, ltb}
 use lib.ListN.{length, getD}
 use Rattle.std.specs.shelf.Lists.{All}
-use Rattle.queues.specs.declared.cell.Packet.{Packet}
+use Rattle.lines.specs.declared.packet.Packet.{Packet}
 use Rattle.queues.specs.declared.cell.Cell.{Cell}
 use Rattle.queues.specs.declared.queues_of.Queues.{Queues}
 use Rattle.queues.specs.Lines.{ticksOf, sumTo}

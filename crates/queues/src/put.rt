@@ -7,8 +7,8 @@ ghost use lib.ListN.{set};
 ghost use Rattle.queues.specs.Lines.{putIn, packetsIn};
 ghost use Rattle.queues.specs.Held.{Holds, packetAt, size};
 use super::cell::Cell;
-use super::cell::Packet;
 use super::queues_of::Queues;
+use lines::packet::Packet;
 
 // So many ticks and those of one packet more still fit 64 bits.
 const MOST_TICKS: u64 = 0xffff_ffff_ffff_ff00;

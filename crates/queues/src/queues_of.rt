@@ -1,4 +1,4 @@
-use super::cell::Packet;
+use lines::packet::Packet;
 
 // The queues of a port: where each begins and ends in the lent memory, how many packets and ticks wait in each, and where
 // the free cells begin.

@@ -5,9 +5,9 @@ ghost use Rattle.queues.specs.Lines.{Lowest, takenFrom, leftBy};
 ghost use Rattle.queues.specs.Held.{Holds};
 ghost use Rattle.queues.specs.Laws.{QueueLaws};
 use super::cell::Cell;
-use super::cell::Packet;
 use super::queues_of::Queues;
 use super::queues_of::Taken;
+use lines::packet::Packet;
 
 impl Queues {
     // The first packet of the lowest class that has one; its cell becomes free. Nothing, and nothing changes, where all

@@ -4,8 +4,8 @@ ghost use mathlib.Core.List.{List};
 ghost use Rattle.queues.specs.Lines.{ticksIn};
 ghost use Rattle.queues.specs.Held.{Holds};
 use super::cell::Cell;
-use super::cell::Packet;
 use super::queues_of::Queues;
+use lines::packet::Packet;
 
 impl Queues {
     // All ticks that wait, of the eight classes together.

@@ -1,0 +1,4 @@
+pub mod Rounds
+pub mod Meanings
+pub mod LineLaws
+pub mod TickLaws

@@ -1,0 +1,4 @@
+pub mod Lines
+pub mod Means
+pub mod Laws
+pub mod Ticks
