@@ -57,6 +57,7 @@ impl Plan {
                 refusal: Refusal::Crowded,
             });
         }
+        // With so few flows no sum passes 32 bits, and none of the two is missing.
         let Some(loads) = self.loads.with(&new.flow) else {
             return Err(NotAdmitted::Refused {
                 refusal: Refusal::Crowded,

@@ -26,15 +26,20 @@ fn ticks_within(bursts: u32, rates: u32, window: u64) -> u128
     (DEN * bursts as u128 + rates as u128 * window as u128 + 999_999) / DEN
 }
 
-// A regulator of one class between two ports.
+// A regulator of one class between two ports. Most have no flow, and need nothing.
 fn class_need(port: &Load, pair: &Load, class: u8) -> u128
     requires { ⌜ class < 8 ⌝ }
     ensures value { λ r. ⌜ r ≡ classNeed (loadModel (now (port .entry))) (loadModel (now (pair .entry))) class ⌝ }
     ensures small { λ r. ⌜ r < 2 ^ 97 ⌝ }
 {
     let place = class as usize;
+    let bursts = pair.bursts[place];
+    let rates = pair.rates[place];
+    if bursts == 0 && rates == 0 {
+        return 0;
+    }
     let window = port.promise(class).unwrap_or(0);
-    ticks_within(pair.bursts[place], pair.rates[place], window)
+    ticks_within(bursts, rates, window)
 }
 
 // The regulators of all classes between two ports.
