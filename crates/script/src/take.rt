@@ -85,10 +85,10 @@ impl Session {
     }
 
     // What becomes of a record that was read without a fault. Without memory nothing changes.
-    fn take_record(&mut self, heap: Global, record: Record) -> Result<Line, AllocError>
-        ensures { λ r. ⌜ ByOk r (λ line. (line, standing (now (self .exit))) ≡ takeRecord (standing (now (self .entry))) (recordOf «record»)) (λ _. standing (now (self .exit)) ≡ standing (now (self .entry))) ⌝ }
+    fn take_record(&mut self, heap: Global, record: &Record) -> Result<Line, AllocError>
+        ensures { λ r. ⌜ ByOk r (λ line. (line, standing (now (self .exit))) ≡ takeRecord (standing (now (self .entry))) (recordOf (now («record» .entry)))) (λ _. standing (now (self .exit)) ≡ standing (now (self .entry))) ⌝ }
     {
-        match record {
+        match *record {
             Record::Switch(switch) => Ok(self.take_switch(switch)),
             Record::Net(net) => self.take_net(heap, net),
             Record::Flow(flow) => self.take_flow(flow),
@@ -118,14 +118,14 @@ impl Session {
         &mut self,
         heap: Global,
         bytes: &[u8],
-        read: Result<Record, Fault>,
+        read: &Result<Record, Fault>,
     ) -> Result<Line, AllocError>
-        ensures { λ r. ⌜ ByOk r (λ line. (line, standing (now (self .exit))) ≡ becomes (standing (now (self .entry))) (now (bytes .entry)) (verdict recordOf read)) (λ _. standing (now (self .exit)) ≡ standing (now (self .entry))) ⌝ }
+        ensures { λ r. ⌜ ByOk r (λ line. (line, standing (now (self .exit))) ≡ becomes (standing (now (self .entry))) (now (bytes .entry)) (verdict recordOf (now (read .entry)))) (λ _. standing (now (self .exit)) ≡ standing (now (self .entry))) ⌝ }
     {
         match read {
             Err(fault) => {
                 let name = self.name(bytes);
-                Ok(self.refuse(name, Cause::Fault { fault }))
+                Ok(self.refuse(name, Cause::Fault { fault: *fault }))
             }
             Ok(record) => self.take_record(heap, record),
         }
@@ -146,7 +146,7 @@ impl Session {
         ensures value { λ r. ⌜ ByOk r (λ line. (line, standing (now (self .exit))) ≡ step (standing (now (self .entry))) (extent (piece .entry))) (λ _. standing (now (self .exit)) ≡ standing (now (self .entry))) ⌝ }
     {
         let read = self.read_here(piece);
-        let line = self.judge(heap, piece.bytes, read)?;
+        let line = self.judge(heap, piece.bytes, &read)?;
         self.count(piece.bytes);
         Ok(line)
     }
