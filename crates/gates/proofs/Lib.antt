@@ -1,0 +1,3 @@
+pub mod PassLaws
+pub mod StepLaws
+pub mod GateLaws

@@ -1,0 +1,3 @@
+pub mod Gates
+pub mod Opens
+pub mod Laws

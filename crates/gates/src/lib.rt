@@ -1,0 +1,2 @@
+// Gates: regulators before the queues of a port.
+pub mod gate;

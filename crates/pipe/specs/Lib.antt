@@ -1,0 +1,2 @@
+pub mod Pipe
+pub mod Laws

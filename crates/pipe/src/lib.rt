@@ -1,0 +1,2 @@
+// What goes from one port to the next.
+pub mod due;
