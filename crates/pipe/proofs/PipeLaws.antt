@@ -2,16 +2,18 @@
 use mathlib.Core.Path.{_≡_, refl, sym, subst}
 use mathlib.Core.List.{List, [], _∷_, _++_}
 use mathlib.Core.Logic.{inl, inr}
-use Prim.Native.Nat.{ℕ, _+_, _≤_}
+use Prim.Native.Nat.{ℕ, _+_, _≤_, _<_}
 use native.Mathlib.Omega.{arith}
 use Rattle.std.specs.shelf.Lists.{All}
 use Rattle.std.specs.declared.option.Option.{Option}
 use Rattle.std.specs.declared.option.Option.the-variants.{Some, None}
 use Rattle.std.proofs.shelf.Elements.{all-weaker}
 use Rattle.flows.specs.Flow.{FlowModel}
-use Rattle.pipe.specs.Pipe.{Packet, Passed, PipeModel, Step, enters, comes, passes, ticks, Run, begins, goes}
-use Rattle.pipe.specs.Laws.{OneOf, NoLonger, CostsNothing, WithinBound, NextRegular, PipeLaws}
+use Rattle.pipe.specs.Pipe.{Packet, Passed, PipeModel, Step, enters, comes, passes, ticks, Run, begins, goes, ticked}
+use Rattle.pipe.specs.Laws.{OneOf, NoLonger, CostsNothing, WithinBound, NobodyDue, NextRegular, PipeLaws}
 use Rattle.pipe.proofs.LineLaws.{one-all, Away, Rising, Front, Due}
+use Rattle.pipe.proofs.OrderLaws.{nobody-overtakes, never-stuck}
+use Rattle.pipe.proofs.ExampleLaws.{wait-met}
 use Rattle.pipe.proofs.StepLaws.{Costless, Kept, empty-kept, tick-kept, come-kept, enter-kept, pass-kept}
 
 step-kept : (fs : List FlowModel) (s t : PipeModel) → Step fs s t → Kept fs s → Kept fs t
@@ -79,8 +81,14 @@ within-bound fs s bound run came =
       waits-in bound (s .now) (s .pipe) (s .passed) (s .now) (kept .rising) (kept .front) (kept .due) (came .waits) (came .gone),
     )
 
+pub nobody-due : NobodyDue
+nobody-due fs s bound run came may =
+    all-weaker (HasTime bound (s .now + 1)) (λ w. (t : ℕ) → w .came ≡ Some t → s .now < w .sent + bound) (λ w time t come. omega (arith, time t come))
+    (s .pipe) (within-bound fs (ticked s) bound (goes run (ticks may refl)) (record { waits = came .waits; gone = came .gone }) .1)
+
 pub next-regular : NextRegular
 next-regular fs s k run = run-kept fs s run .regular k
 
 pub pipe-laws : PipeLaws
-pipe-laws = record { costless = costs-nothing; within = within-bound; regular = next-regular }
+pipe-laws =
+    record { costless = costs-nothing; within = within-bound; due = nobody-due; regular = next-regular; order = nobody-overtakes; moves = never-stuck; met = wait-met }

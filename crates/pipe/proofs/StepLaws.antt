@@ -1,18 +1,18 @@
 -- What every step of a pipe keeps. Assumes nothing.
-use mathlib.Core.Path.{_≡_, refl, sym, subst, _∙_}
-use mathlib.Core.List.{List, [], _∷_, _++_, map}
+use mathlib.Core.Path.{_≡_, refl, subst, _∙_}
+use mathlib.Core.List.{List, [], _∷_, map}
 use mathlib.Core.Logic.{_⊎_, inl, inr}
 use Prim.Native.Nat.{ℕ, _+_, _-_, _*_, _≤_, _<_}
 use native.Mathlib.Nat.{mul-zero}
 use native.Mathlib.Omega.{arith}
 use lib.ListN.{length, getD, set, length-set, length-map}
 use lib.Seq.{getD-set-same, getD-set-other}
-use Rattle.std.specs.declared.option.Option.the-variants.{Some, None}
+use Rattle.std.specs.declared.option.Option.the-variants.{None}
 use Rattle.std.proofs.shelf.Tests.{cases-lt, cases-eq}
 use Rattle.flows.specs.Flow.{FlowModel}
 use Rattle.promises.specs.Promises.{den}
-use Rattle.port.specs.Port.{Level, full, flowAt, deficitAt}
-use Rattle.pipe.specs.Pipe.{Packet, Passed, PipeModel, MayEnter, MayCome, MayPass, MayTick, empty, entered, met, left, ticked, arrived, lackWith, levelWith}
+use Rattle.port.specs.Port.{Level, full, flowAt}
+use Rattle.pipe.specs.Pipe.{Packet, Passed, PipeModel, MayEnter, MayCome, MayPass, MayTick, empty, entrant, entered, met, left, ticked, lackWith, levelWith}
 use Rattle.pipe.specs.Laws.{OneOf, NoLonger}
 use Rattle.pipe.proofs.LevelLaws.{full-at, Behind, behind-later, behind-then}
 use Rattle.pipe.proofs.LineLaws.{one-weaker, carried, Carries, Chain, chain-push, chain-comes, Rising, rising-from, rising-to, rising-ends, rising-push, rising-comes, Front, front-push, front-comes, Due, due-push, due-comes, due-next}
@@ -127,7 +127,7 @@ module _ (fs : List FlowModel) (s : PipeModel) (kept : Kept fs s) where
         sized-then = kept .sized-then;
         chain =
             chain-push fs (kept .then) (s .pipe) (s .levels)
-            (record { flow = k; len = len; sent = s .now; lack = lackWith fs (s .levels) (s .now) k len; came = None }) (kept .chain)
+            (entrant fs s k len) (kept .chain)
             (record { known = may .known; since = kept .past k; is = refl; regular = may .regular });
         behind = kept .behind;
         past = λ j. elim (cases-eq j k) [
@@ -136,13 +136,13 @@ module _ (fs : List FlowModel) (s : PipeModel) (kept : Kept fs s) where
         ];
         rising =
             rising-push 0 (s .pipe)
-            (record { flow = k; len = len; sent = s .now; lack = lackWith fs (s .levels) (s .now) k len; came = None }) (kept .rising);
+            (entrant fs s k len) (kept .rising);
         front =
             front-push (s .pipe)
-            (record { flow = k; len = len; sent = s .now; lack = lackWith fs (s .levels) (s .now) k len; came = None }) refl (kept .front);
+            (entrant fs s k len) refl (kept .front);
         due =
             due-push (s .now) (s .passed) (s .pipe)
-            (record { flow = k; len = len; sent = s .now; lack = lackWith fs (s .levels) (s .now) k len; came = None }) refl (kept .due);
+            (entrant fs s k len) refl (kept .due);
         lags = kept .lags;
         costless = kept .costless;
         regular = kept .regular;

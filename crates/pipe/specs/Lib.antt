@@ -1,2 +1,3 @@
 pub mod Pipe
+pub mod Examples
 pub mod Laws

@@ -8,7 +8,7 @@ use Rattle.std.specs.declared.option.Option.{Option}
 use Rattle.std.specs.declared.option.Option.the-variants.{Some, None}
 use Rattle.flows.specs.Flow.{FlowModel}
 use Rattle.promises.specs.Promises.{den}
-use Rattle.port.specs.Port.{Level, full, flowAt, deficitAt}
+use Rattle.port.specs.Port.{Packet as Entry, Level, full, flowAt, deficitAt}
 
 -- A packet in the pipe: the place of its flow in the list of flows, its length, the tick of its pass at the first port, what its flow's burst
 -- lacked there right after, in millionths of a tick, and the tick at which it came to the regulator before the second port, if it has.
@@ -52,12 +52,16 @@ pub record MayEnter (fs : List FlowModel) (s : PipeModel) (k len : ℕ) : Type 0
   pub some : 1 ≤ len
   pub regular : lackWith fs (s .levels) (s .now) k len ≤ den * flowAt fs k .burst
 
+-- the packet as it passes there
+abbrev pub entrant : List FlowModel → PipeModel → ℕ → ℕ → Packet
+entrant fs s k len = record { flow = k; len = len; sent = s .now; lack = lackWith fs (s .levels) (s .now) k len; came = None }
+
 -- it goes to the end of the pipe
 abbrev pub entered : List FlowModel → PipeModel → ℕ → ℕ → PipeModel
 entered fs s k len =
     record {
       now = s .now;
-      pipe = s .pipe ++ record { flow = k; len = len; sent = s .now; lack = lackWith fs (s .levels) (s .now) k len; came = None } ∷ [];
+      pipe = s .pipe ++ entrant fs s k len ∷ [];
       levels = set (s .levels) k (levelWith fs (s .levels) (s .now) k len);
       next = s .next;
       passed = s .passed;
@@ -117,3 +121,24 @@ pub data Step (fs : List FlowModel) (s t : PipeModel) : Type 0 where
 pub data Run (fs : List FlowModel) : PipeModel → Type 0 where
   begins : Run fs (empty fs)
   goes : {s t : PipeModel} → Run fs s → Step fs s t → Run fs t
+
+-- a packet as it passed at the first port
+abbrev pub entry : Packet → Entry
+entry w = record { flow = w .flow; len = w .len; into = w .sent }
+
+-- those that have passed at the next port, in the order in which they did
+unfoldable pub through : List Passed → List Entry
+through [] = []
+through (g ∷ gs) = through gs ++ entry (g .packet) ∷ []
+
+-- those, and then those in the pipe
+abbrev pub lineOf : PipeModel → List Entry
+lineOf s = through (s .passed) ++ map entry (s .pipe)
+
+-- those that passed at the first port in a run, in the order in which they did
+unfoldable pub entersOf : (fs : List FlowModel) {s : PipeModel} → Run fs s → List Entry
+entersOf fs begins = []
+entersOf fs (goes {s = s} run (enters k len may after)) = entersOf fs run ++ record { flow = k; len = len; into = s .now } ∷ []
+entersOf fs (goes run (comes front w back may after)) = entersOf fs run
+entersOf fs (goes run (passes w rest came may after)) = entersOf fs run
+entersOf fs (goes run (ticks may after)) = entersOf fs run
