@@ -1,0 +1,5 @@
+pub mod JointLaws
+pub mod RunLaws
+pub mod PhaseLaws
+pub mod ExampleLaws
+pub mod MachineLaws

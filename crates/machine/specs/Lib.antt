@@ -1,0 +1,5 @@
+pub mod Phases
+pub mod Joint
+pub mod Runs
+pub mod Examples
+pub mod Laws

@@ -1,0 +1,4 @@
+// The phases of a tick at one port.
+pub mod leaving;
+pub mod phases;
+pub mod sending;
