@@ -1,5 +1,7 @@
 // Runs a table of inputs. Each line names a program and gives its input in hexadecimal digits; printed is what the
 // program prints, each line behind the number of its case, or a dash where it prints nothing.
+#![tactic(auto)]
+
 ghost use Rattle.std.specs.Prelude.{◌≡◌, ◌<◌, [], ◌∷◌, IfSome, IfOk};
 ghost use Rattle.cases.specs.Digits.{digit_of, spelled, name_of};
 

@@ -2,15 +2,15 @@
 use Rattle.std.proofs.Common.{◌≡◌, ℕ, suc, ◌+◌, ◌*◌, ◌^◌, ◌<◌, ◌≤◌, max, List, [], ◌∷◌, ◌++◌, length, sym, refl, ap, ◌∙◌, subst, subst₂, append_assoc, arith, length-append}
 use Rattle.std.specs.List.{flat_map, AllByRecursion as All}
 use Rattle.std.proofs.ByRecursion.{All-weaker}
-use Rattle.bytes.specs.Reading.{Cursor, Outcome, read, and_then, several}
-use Rattle.bytes.specs.Numbers.{number, ranged, kind_byte, bytes_of, IsByte}
-use Rattle.bytes.specs.Format.{Format}
-use Rattle.bytes.proofs.Sequence.{both_read, same_value, same_place}
-use Rattle.bytes.proofs.Digits.{length-bytes_of}
-use Rattle.bytes.proofs.Written.{Told, told_then, number_told, number_written, ranged_told, ranged_written, kind_told, kind_written}
-use Rattle.bytes.proofs.Several.{several_written, several_told, steady_several}
-use Rattle.bytes.proofs.Steady.{Steady, steady_then, steady_value, steady_number, steady_ranged, steady_kind}
-use Rattle.bytes.proofs.Formats.{format_of}
+use Rattle.record_bytes.specs.Reading.{Cursor, Outcome, read, and_then, several}
+use Rattle.record_bytes.specs.Numbers.{number, ranged, kind_byte, bytes_of, IsByte}
+use Rattle.record_bytes.specs.Format.{Format}
+use Rattle.record_bytes.proofs.Sequence.{both_read, same_value, same_place}
+use Rattle.record_bytes.proofs.Digits.{length-bytes_of}
+use Rattle.record_bytes.proofs.Written.{Told, told_then, number_told, number_written, ranged_told, ranged_written, kind_told, kind_written}
+use Rattle.record_bytes.proofs.Several.{several_written, several_told, steady_several}
+use Rattle.record_bytes.proofs.Steady.{Steady, steady_then, steady_value, steady_number, steady_ranged, steady_kind}
+use Rattle.record_bytes.proofs.Formats.{format_of}
 use Rattle.flows.specs.declared.port.Port.{Port}
 use Rattle.flows.specs.Net.{NetModel, SoundPort, SoundNet}
 use Rattle.flows.specs.NetFormat.{port_from, port_bytes, needed, net_from, net_record, net_bytes, SoundAtLeast}

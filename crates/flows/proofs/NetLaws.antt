@@ -3,9 +3,9 @@ use Rattle.std.proofs.Common.{◌≡◌, ℕ, suc, ◌+◌, ◌<◌, ◌≤◌, 
 use Rattle.std.specs.List.{flat_map, AllByRecursion as All}
 use Rattle.std.proofs.lemmas.List.{get_or-take, length-take}
 use Rattle.std.proofs.ByRecursion.{All-get_or, All-weaker}
-use Rattle.bytes.specs.Reading.{Cursor, Outcome, read, fault, and_then, several}
-use Rattle.bytes.specs.Numbers.{number, ranged, kind_byte}
-use Rattle.bytes.proofs.Sequence.{both_read, same_value, ranged_bounds, several_all}
+use Rattle.record_bytes.specs.Reading.{Cursor, Outcome, read, fault, and_then, several}
+use Rattle.record_bytes.specs.Numbers.{number, ranged, kind_byte}
+use Rattle.record_bytes.proofs.Sequence.{both_read, same_value, ranged_bounds, several_all}
 use Rattle.flows.specs.declared.port.Port.{Port}
 use Rattle.flows.specs.Net.{NetModel, net_model, no_port, SoundPort, SoundNet}
 use Rattle.flows.specs.NetFormat.{port_from, needed, net_from}

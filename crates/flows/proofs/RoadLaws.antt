@@ -4,12 +4,12 @@ use Rattle.std.proofs.lemmas.List.{take_more_set, append-nil, length_push, get_o
 use Rattle.std.proofs.ByRecursion.{All-push, All-get_or}
 use Rattle.std.specs.List.{AllByRecursion as All}
 use Rattle.std.proofs.lemmas.Bool.{le-ltb, lt-ltb, ltb-true, eqb-true, eqb-false, eq-eqb, ne_eqb, or_parts, or_from, and_parts, and_from, not-true, not_from_false}
-use Rattle.bytes.specs.Reading.{Cursor, Outcome, read, fault, and_then}
-use Rattle.bytes.specs.Numbers.{number, IsByte}
-use Rattle.bytes.proofs.Sequence.{both_read, test_passed}
-use Rattle.bytes.proofs.Digits.{bytes_of_one}
-use Rattle.bytes.proofs.Written.{Told, told_then, told_none, number_told, number_written}
-use Rattle.bytes.proofs.Steady.{Steady, cut_to, steady_then, steady_value, steady_number}
+use Rattle.record_bytes.specs.Reading.{Cursor, Outcome, read, fault, and_then}
+use Rattle.record_bytes.specs.Numbers.{number, IsByte}
+use Rattle.record_bytes.proofs.Sequence.{both_read, test_passed}
+use Rattle.record_bytes.proofs.Digits.{bytes_of_one}
+use Rattle.record_bytes.proofs.Written.{Told, told_then, told_none, number_told, number_written}
+use Rattle.record_bytes.proofs.Steady.{Steady, cut_to, steady_then, steady_value, steady_number}
 use Rattle.flows.proofs.NetLaws.{in_table}
 use Rattle.flows.specs.Flow.{Once, Joined, IsRoad}
 use Rattle.flows.specs.Net.{NetModel, port_at}

@@ -1,7 +1,7 @@
 -- The bytes of a flow. Assumes nothing.
 use Rattle.std.specs.Prelude.{ℕ, zero, suc, Bool, true, false, cond, not, ◌&&◌, ◌||◌, List, [], ◌∷◌, ◌++◌, length, ◌==◌, nat_lt}
-use Rattle.bytes.specs.Reading.{Cursor, Outcome, read, fault, Verdict, ◌>>=◌, ◌>>◌, pure, and_then, closed, start}
-use Rattle.bytes.specs.Numbers.{number, ranged, kind_byte, bytes_of}
+use Rattle.record_bytes.specs.Reading.{Cursor, Outcome, read, fault, Verdict, ◌>>=◌, ◌>>◌, pure, and_then, closed, start}
+use Rattle.record_bytes.specs.Numbers.{number, ranged, kind_byte, bytes_of}
 use Rattle.flows.specs.Net.{NetModel, port_at}
 use Rattle.flows.specs.Flow.{FlowModel}
 

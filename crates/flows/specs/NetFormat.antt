@@ -1,8 +1,8 @@
 -- The bytes of a net. Assumes nothing.
 use Rattle.std.specs.Prelude.{ℕ, ◌+◌, ◌≤◌, max, Bool, List, [], ◌∷◌, ◌++◌, length}
 use Rattle.std.specs.List.{flat_map}
-use Rattle.bytes.specs.Reading.{Cursor, Outcome, Verdict, ◌>>=◌, ◌>>◌, pure, several, closed, start}
-use Rattle.bytes.specs.Numbers.{number, ranged, kind_byte, bytes_of}
+use Rattle.record_bytes.specs.Reading.{Cursor, Outcome, Verdict, ◌>>=◌, ◌>>◌, pure, several, closed, start}
+use Rattle.record_bytes.specs.Numbers.{number, ranged, kind_byte, bytes_of}
 use Rattle.flows.specs.declared.port.Port.{Port}
 use Rattle.flows.specs.Net.{NetModel, SoundNet}
 

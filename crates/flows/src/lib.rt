@@ -1,4 +1,6 @@
 // Flows and nets: what they are, and the bytes they are read from.
+#![tactic(auto)]
+
 pub mod flow;
 pub mod net;
 pub mod net_values;

@@ -1,18 +1,18 @@
 // Flows from bytes.
 ghost use Rattle.std.specs.Prelude.{◌≡◌, ◌≤◌, [], take};
-ghost use Rattle.bytes.specs.Answers.{cursor, part, verdict};
+ghost use Rattle.record_bytes.specs.Answers.{cursor, part, verdict};
 ghost use Rattle.flows.specs.FlowFormat.{road_port, road_from, flow_from, flow_record, flow_bytes};
-ghost use Rattle.bytes.specs.Reading.{start};
-ghost use Rattle.bytes.specs.Format.{Format};
+ghost use Rattle.record_bytes.specs.Reading.{start};
+ghost use Rattle.record_bytes.specs.Format.{Format};
 ghost use Rattle.flows.specs.Flow.{SoundFlow};
 ghost use Rattle.flows.specs.Models.{net_of, flow_of};
 
 use super::flow::Flow;
 use super::net::Net;
 use super::road::{follows, on_road};
-use bytes::fault::Fault;
-use bytes::piece::Piece;
-use bytes::reader::Reader;
+use record_bytes::fault::Fault;
+use record_bytes::piece::Piece;
+use record_bytes::reader::Reader;
 
 // The next port of a road.
 fn read_road_port(reader: &mut Reader, net: &Net, road: &[u8]) -> Result<u8, Fault>

@@ -1,17 +1,17 @@
 // Nets from bytes.
 ghost use Rattle.std.specs.Prelude.{◌≡◌, ◌≤◌, [], take};
-ghost use Rattle.bytes.specs.Reading.{several, start};
-ghost use Rattle.bytes.specs.Numbers.{ranged};
-ghost use Rattle.bytes.specs.Answers.{cursor, part, verdict};
-ghost use Rattle.bytes.specs.Format.{Format};
+ghost use Rattle.record_bytes.specs.Reading.{several, start};
+ghost use Rattle.record_bytes.specs.Numbers.{ranged};
+ghost use Rattle.record_bytes.specs.Answers.{cursor, part, verdict};
+ghost use Rattle.record_bytes.specs.Format.{Format};
 ghost use Rattle.flows.specs.NetFormat.{port_from, needed, net_from, net_record, net_bytes, SoundAtLeast};
 ghost use Rattle.flows.specs.Models.{net_of};
 
 use super::net::Net;
 use super::port::Port;
-use bytes::fault::Fault;
-use bytes::piece::Piece;
-use bytes::reader::Reader;
+use record_bytes::fault::Fault;
+use record_bytes::piece::Piece;
+use record_bytes::reader::Reader;
 
 fn read_port(reader: &mut Reader) -> Result<Port, Fault>
     ensures { part (λ p. p) result (cursor reader.new) ≡ port_from (cursor reader.old) }

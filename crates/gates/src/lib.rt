@@ -1,2 +1,4 @@
 // Gates: regulators before the queues of a port.
+#![tactic(auto)]
+
 pub mod gate;

@@ -1,4 +1,6 @@
 // Lines: what waits, first in, first out, in lent memory.
+#![tactic(auto)]
+
 pub mod counted;
 pub mod counting;
 pub mod line;

@@ -1,4 +1,6 @@
 // The phases of a tick at one port.
+#![tactic(auto)]
+
 pub mod leaving;
 pub mod phases;
 pub mod sending;

@@ -1,2 +1,4 @@
 // One port: what it takes and sends.
+#![tactic(auto)]
+
 pub mod gone;

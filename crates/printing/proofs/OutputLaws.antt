@@ -1,7 +1,7 @@
 -- What is printed, record by record and line by line. Assumes nothing.
 use Rattle.std.proofs.Common.{◌≡◌, ℕ, List, [], ◌∷◌, ◌++◌, get_or, drop, Some, None, codes, Option, sym, refl, ap, ◌∙◌, append_assoc, append-nil, MatchOption}
-use Rattle.bytes.specs.Row.{Extent, Next, finished, found, next_record, row}
-use Rattle.bytes.proofs.Row.{row_next, row_end}
+use Rattle.record_bytes.specs.Row.{Extent, Next, finished, found, next_record, row}
+use Rattle.record_bytes.proofs.Row.{row_next, row_end}
 use Rattle.admission.specs.Plans.{PlanModel}
 use Rattle.script.specs.declared.line.Line.{Line}
 use Rattle.printing.specs.declared.printout.Printout.{Printout}

@@ -1,6 +1,6 @@
 -- All that a program prints for a whole input. Assumes nothing.
 use Rattle.std.specs.Prelude.{ℕ, List, [], ◌∷◌, ◌++◌, Some, None, Option}
-use Rattle.bytes.specs.Row.{Extent, row}
+use Rattle.record_bytes.specs.Row.{Extent, row}
 use Rattle.records.specs.declared.stage.Program.{Program}
 use Rattle.admission.specs.Plans.{PlanModel}
 use Rattle.admission.specs.Dues.{DuesModel, dues_numbered}

@@ -1,4 +1,6 @@
 // What a program prints for its input, and a program as it is run.
+#![tactic(auto)]
+
 pub mod dues;
 pub mod print;
 pub mod printout;

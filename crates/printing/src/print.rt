@@ -1,6 +1,6 @@
 // What a program prints, in parts, so that a long output need not be held whole.
 ghost use Rattle.std.specs.Prelude.{◌≡◌, ◌<◌, true, false, [], ◌∷◌, ◌++◌, length, IfSome, IfOk, string_bytes, OnOk};
-ghost use Rattle.bytes.specs.Row.{row};
+ghost use Rattle.record_bytes.specs.Row.{row};
 ghost use Rattle.admission.specs.Plans.{plan_of};
 ghost use Rattle.script.specs.Models.{standing};
 ghost use Rattle.script.specs.Lines.{line_text};
@@ -11,7 +11,7 @@ use super::dues::add_dues;
 use super::printout::{Lines, Part, Printout};
 use super::settle::settle;
 use admission::plan::Plan;
-use bytes::records::Records;
+use record_bytes::records::Records;
 use records::stage::Program;
 use script::line::Line;
 use script::session::Session;

@@ -1,5 +1,5 @@
 use admission::plan::Plan;
-use bytes::records::Records;
+use record_bytes::records::Records;
 use script::session::Session;
 
 // A program that has still to print: where it stands, the records that are left, and the plan with all flows admitted.

@@ -1,12 +1,12 @@
 // The plan of a whole input, which is known once all its flows are read.
 ghost use Rattle.std.specs.Prelude.{◌≡◌, IfOk};
-ghost use Rattle.bytes.specs.Row.{row};
+ghost use Rattle.record_bytes.specs.Row.{row};
 ghost use Rattle.script.specs.Models.{standing};
 ghost use Rattle.script.specs.Session.{after_all};
 ghost use Rattle.admission.specs.Plans.{plan_of};
 ghost use Rattle.printing.specs.Output.{last_plan};
 
-use bytes::records::Records;
+use record_bytes::records::Records;
 use records::stage::{Program, Stage};
 use script::session::Session;
 use std::alloc::{AllocError, Global};

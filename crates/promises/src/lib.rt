@@ -1,4 +1,6 @@
 // Promises: what flows ask of ports, what ports promise them, and the memory that this needs.
+#![tactic(auto)]
+
 pub mod crossings;
 pub mod load;
 pub mod loads;

@@ -1,4 +1,6 @@
 // The queues of a port: eight classes in one lent memory, first in first out within a class.
+#![tactic(auto)]
+
 pub mod cell;
 pub mod empty;
 pub mod put;

@@ -2,14 +2,14 @@
 use Rattle.std.proofs.Common.{◌≡◌, ℕ, suc, ◌+◌, ◌^◌, ◌<◌, ◌≤◌, Bool, ltb, List, [], ◌∷◌, ◌++◌, length, sym, refl, ap, ◌∙◌, subst, subst₂, append_assoc, arith, length-append}
 use Rattle.std.specs.List.{AllByRecursion as All}
 use Rattle.std.proofs.lemmas.Bool.{ltb-true, lt-ltb}
-use Rattle.bytes.specs.Reading.{Cursor, Outcome, read, and_then}
-use Rattle.bytes.specs.Numbers.{number, kind_byte, bytes_of, IsByte}
-use Rattle.bytes.specs.Format.{Format}
-use Rattle.bytes.proofs.Sequence.{both_read, same_value, same_place}
-use Rattle.bytes.proofs.Digits.{length-bytes_of}
-use Rattle.bytes.proofs.Written.{Told, told_then, number_told, number_written, tested_told, tested_written, kind_told, kind_written}
-use Rattle.bytes.proofs.Steady.{Steady, steady_then, steady_value, steady_number, steady_tested, steady_kind}
-use Rattle.bytes.proofs.Formats.{format_of}
+use Rattle.record_bytes.specs.Reading.{Cursor, Outcome, read, and_then}
+use Rattle.record_bytes.specs.Numbers.{number, kind_byte, bytes_of, IsByte}
+use Rattle.record_bytes.specs.Format.{Format}
+use Rattle.record_bytes.proofs.Sequence.{both_read, same_value, same_place}
+use Rattle.record_bytes.proofs.Digits.{length-bytes_of}
+use Rattle.record_bytes.proofs.Written.{Told, told_then, number_told, number_written, tested_told, tested_written, kind_told, kind_written}
+use Rattle.record_bytes.proofs.Steady.{Steady, steady_then, steady_value, steady_number, steady_tested, steady_kind}
+use Rattle.record_bytes.proofs.Formats.{format_of}
 use Rattle.records.specs.declared.record.Packet.{Packet}
 use Rattle.records.specs.declared.record.Arrival.{Arrival}
 use Rattle.records.specs.declared.record.Ticks.{Ticks}

@@ -1,7 +1,7 @@
 -- The bytes of packets, ticks and switches. Assumes nothing.
 use Rattle.std.specs.Prelude.{ℕ, ◌<◌, Bool, List, ◌++◌, nat_lt}
-use Rattle.bytes.specs.Reading.{Cursor, Outcome, Verdict, ◌>>=◌, ◌>>◌, pure, closed, start}
-use Rattle.bytes.specs.Numbers.{number, tested, kind_byte, bytes_of}
+use Rattle.record_bytes.specs.Reading.{Cursor, Outcome, Verdict, ◌>>=◌, ◌>>◌, pure, closed, start}
+use Rattle.record_bytes.specs.Numbers.{number, tested, kind_byte, bytes_of}
 use Rattle.records.specs.declared.record.Packet.{Packet}
 use Rattle.records.specs.declared.record.Arrival.{Arrival}
 use Rattle.records.specs.declared.record.Ticks.{Ticks}

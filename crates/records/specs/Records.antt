@@ -1,6 +1,6 @@
 -- A record of any kind, where a program stands. Assumes nothing.
 use Rattle.std.specs.Prelude.{ℕ, Bool, List, length}
-use Rattle.bytes.specs.Reading.{Verdict, accepted, refused}
+use Rattle.record_bytes.specs.Reading.{Verdict, accepted, refused}
 use Rattle.flows.specs.Net.{NetModel}
 use Rattle.flows.specs.Flow.{FlowModel}
 use Rattle.flows.specs.Models.{net_of, flow_of}

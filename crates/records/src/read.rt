@@ -1,7 +1,7 @@
 // Records from bytes.
 ghost use Rattle.std.specs.Prelude.{◌≡◌, length};
-ghost use Rattle.bytes.specs.Answers.{cursor, part, verdict};
-ghost use Rattle.bytes.specs.Format.{Format};
+ghost use Rattle.record_bytes.specs.Answers.{cursor, part, verdict};
+ghost use Rattle.record_bytes.specs.Format.{Format};
 ghost use Rattle.flows.specs.Models.{net_of};
 ghost use Rattle.records.specs.Formats.{packet_from, port_number, packet_record, packet_bytes, SoundPacket, arrival_record, arrival_bytes, SoundArrival, ticks_record, ticks_bytes, SoundTicks, switch_record, switch_bytes, SoundSwitch};
 ghost use Rattle.records.specs.Records.{record_here, record_of};
@@ -9,12 +9,12 @@ ghost use Rattle.records.specs.Records.{record_here, record_of};
 use super::kinds::kind_of;
 use super::record::{Arrival, Packet, Record, Switch, Ticks};
 use super::stage::{Kind, Program, Stage};
-use bytes::fault::Fault;
-use bytes::piece::Piece;
-use bytes::reader::Reader;
 use flows::net::Net;
 use flows::read_flow::read_flow;
 use flows::read_net::read_net;
+use record_bytes::fault::Fault;
+use record_bytes::piece::Piece;
+use record_bytes::reader::Reader;
 
 fn read_packet_parts(reader: &mut Reader) -> Result<Packet, Fault>
     ensures { part (λ p. p) result (cursor reader.new) ≡ packet_from (cursor reader.old) }

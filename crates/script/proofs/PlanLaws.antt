@@ -1,8 +1,8 @@
 -- What becomes of the plan. Assumes nothing.
 use Rattle.std.proofs.Common.{◌≡◌, ℕ, ◌+◌, Bool, true, false, cond, eqb, leb, List, [], ◌∷◌, ◌++◌, Some, None, Option, sym, refl, ap, ◌∙◌, subst, append_assoc, append-nil, arith}
 use Rattle.std.proofs.lemmas.Bool.{eq-eqb}
-use Rattle.bytes.specs.Reading.{Verdict, accepted, refused}
-use Rattle.bytes.specs.Row.{Extent}
+use Rattle.record_bytes.specs.Reading.{Verdict, accepted, refused}
+use Rattle.record_bytes.specs.Row.{Extent}
 use Rattle.flows.specs.Net.{NetModel}
 use Rattle.flows.specs.Flow.{FlowModel}
 use Rattle.records.specs.declared.stage.Program.{Program}

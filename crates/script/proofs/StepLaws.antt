@@ -1,9 +1,9 @@
 -- The laws of what becomes of records. Assumes nothing.
 use Rattle.std.proofs.Common.{◌≡◌, ℕ, ◌+◌, Bool, true, false, cond, ◌&&◌, eqb, ltb, leb, ◌⊎◌, List, [], ◌∷◌, ◌++◌, length, Some, None, Option, sym, refl, ap, ◌∙◌, ap₂, inl, inr, arith}
 use Rattle.std.proofs.lemmas.Bool.{cases_Bool}
-use Rattle.bytes.specs.Reading.{Verdict, accepted, refused, Outcome, closed, start}
-use Rattle.bytes.specs.Row.{Extent}
-use Rattle.bytes.proofs.Sequence.{closed-accepted}
+use Rattle.record_bytes.specs.Reading.{Verdict, accepted, refused, Outcome, closed, start}
+use Rattle.record_bytes.specs.Row.{Extent}
+use Rattle.record_bytes.proofs.Sequence.{closed-accepted}
 use Rattle.flows.specs.Flow.{FlowModel}
 use Rattle.flows.specs.Net.{NetModel}
 use Rattle.records.specs.declared.stage.Kind.{Kind}

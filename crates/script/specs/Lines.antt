@@ -1,6 +1,6 @@
 -- The lines that are printed, byte by byte. Assumes nothing.
 use Rattle.std.specs.Prelude.{ℕ, ◌-◌, List, [], ◌∷◌, ◌++◌, length, drop, codes, decimal, slice_index}
-use Rattle.bytes.specs.declared.fault.Fault.TheVariants as faults
+use Rattle.record_bytes.specs.declared.fault.Fault.TheVariants as faults
 use Rattle.admission.specs.declared.refusal.Refusal.TheVariants.{Road, Crowded, Promised, Late, Memory}
 use Rattle.admission.specs.Dues.{DuesModel}
 use Rattle.script.specs.declared.line.Name.{Name}

@@ -1,9 +1,9 @@
 -- What becomes of each record of a program's input. Assumes nothing.
 use Rattle.std.specs.Prelude.{◌≡◌, ℕ, ◌+◌, min, Bool, true, false, cond, not, ◌&&◌, List, [], ◌∷◌, ◌++◌, length, Some, None, Option, ◌==◌, nat_le, nat_lt}
-use Rattle.bytes.specs.Reading.{Verdict, accepted, refused}
-use Rattle.bytes.specs.Row.{Extent}
-use Rattle.bytes.specs.declared.fault.Fault.{Fault}
-use Rattle.bytes.specs.declared.fault.Fault.TheVariants as faults
+use Rattle.record_bytes.specs.Reading.{Verdict, accepted, refused}
+use Rattle.record_bytes.specs.Row.{Extent}
+use Rattle.record_bytes.specs.declared.fault.Fault.{Fault}
+use Rattle.record_bytes.specs.declared.fault.Fault.TheVariants as faults
 use Rattle.flows.specs.Net.{NetModel, port_at, no_net, together}
 use Rattle.flows.specs.Flow.{FlowModel}
 use Rattle.flows.specs.FlowFormat.{passes}

@@ -1,6 +1,6 @@
 -- Laws of what becomes of records. Assumes nothing.
 use Rattle.std.specs.Prelude.{◌≡◌, ℕ, false, List, Some}
-use Rattle.bytes.specs.Row.{Extent}
+use Rattle.record_bytes.specs.Row.{Extent}
 use Rattle.flows.specs.Flow.{FlowModel}
 use Rattle.records.specs.declared.stage.Stage.TheVariants as stages
 use Rattle.admission.specs.Dues.{flow_numbered}

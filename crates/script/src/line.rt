@@ -1,5 +1,5 @@
 use admission::refusal::Refusal;
-use bytes::fault::Fault;
+use record_bytes::fault::Fault;
 
 // What a refused record is called, by its first byte alone.
 #[derive(Clone, Copy)]

@@ -4,7 +4,7 @@ ghost use Rattle.script.specs.Lines.{name_text, cause_text, line_text};
 
 use super::line::{Cause, Line, Name};
 use admission::refusal::Refusal;
-use bytes::fault::Fault;
+use record_bytes::fault::Fault;
 use std::fmt;
 
 impl fmt::Display for Name {

@@ -2,7 +2,7 @@
 ghost use Rattle.std.specs.Prelude.{◌≡◌, true, false, Option, MatchResult};
 ghost use Rattle.flows.specs.Models.{net_of, flow_of};
 ghost use Rattle.records.specs.Records.{record_of};
-ghost use Rattle.bytes.specs.Answers.{extent, verdict};
+ghost use Rattle.record_bytes.specs.Answers.{extent, verdict};
 ghost use Rattle.script.specs.Models.{standing};
 ghost use Rattle.script.specs.SessionLaws.{RefusedOnlyCounts, CutIsRefused, AdmittedStays, PlanSettled};
 ghost use Rattle.admission.specs.Dues.{flow_numbered};
@@ -10,10 +10,10 @@ ghost use Rattle.script.specs.Session.{length_fits, port_fits, packet_fits, arri
 
 use super::line::{Cause, Line, Name};
 use super::session::Session;
-use bytes::fault::Fault;
-use bytes::piece::Piece;
 use flows::flow::Flow;
 use flows::net::Net;
+use record_bytes::fault::Fault;
+use record_bytes::piece::Piece;
 use records::read::read_record;
 use records::record::{Arrival, Packet, Record};
 use records::stage::Stage;

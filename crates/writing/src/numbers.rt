@@ -1,6 +1,6 @@
 // Numbers put at the end of a record, high byte first. Where there is no memory, nothing is put.
 ghost use Rattle.std.specs.Prelude.{◌≡◌, ◌++◌, is_ok, if◌then◌else◌};
-ghost use Rattle.bytes.specs.Numbers.{bytes_of};
+ghost use Rattle.record_bytes.specs.Numbers.{bytes_of};
 
 use std::alloc::AllocError;
 

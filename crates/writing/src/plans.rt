@@ -1,7 +1,7 @@
 // Nets and flows to bytes.
 ghost use Rattle.std.specs.Prelude.{◌≡◌, ◌++◌, IfOk, OnOk};
 ghost use Rattle.std.specs.List.{flat_map};
-ghost use Rattle.bytes.specs.Numbers.{bytes_of};
+ghost use Rattle.record_bytes.specs.Numbers.{bytes_of};
 ghost use Rattle.flows.specs.NetFormat.{port_bytes, net_bytes};
 ghost use Rattle.flows.specs.FlowFormat.{flow_bytes};
 ghost use Rattle.flows.specs.Models.{net_of, flow_of};

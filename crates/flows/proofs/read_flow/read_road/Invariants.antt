@@ -1,5 +1,5 @@
 use Rattle.std.proofs.Common.{◌≡◌, [], length}
-use Rattle.bytes.specs.Answers.{cursor}
+use Rattle.record_bytes.specs.Answers.{cursor}
 use Rattle.flows.specs.FlowFormat.{road_from}
 use Rattle.flows.specs.Models.{net_of}
 use Rattle.flows.proofs.RoadLaws.{Goes}

@@ -1,7 +1,7 @@
 use Rattle.std.proofs.Common.{◌≡◌, length, refl, ◌∙◌, arith, length-set}
 use Rattle.std.proofs.lemmas.Result.{err_from_is_err_and}
-use Rattle.bytes.proofs.Several.{reads_on, reads_fault, reads_end}
-use Rattle.bytes.specs.Numbers.{ranged}
+use Rattle.record_bytes.proofs.Several.{reads_on, reads_fault, reads_end}
+use Rattle.record_bytes.specs.Numbers.{ranged}
 use Rattle.flows.proofs.read_net.read_memories.Goals as goal
 
 pub returns-in-err-ticks : goal.returns-in-err-ticks

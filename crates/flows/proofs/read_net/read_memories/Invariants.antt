@@ -1,8 +1,8 @@
 use Rattle.std.proofs.Common.{◌≡◌, length}
-use Rattle.bytes.specs.Reading.{several}
-use Rattle.bytes.specs.Answers.{cursor}
-use Rattle.bytes.proofs.Several.{Reads}
-use Rattle.bytes.specs.Numbers.{ranged}
+use Rattle.record_bytes.specs.Reading.{several}
+use Rattle.record_bytes.specs.Answers.{cursor}
+use Rattle.record_bytes.proofs.Several.{Reads}
+use Rattle.record_bytes.specs.Numbers.{ranged}
 use Rattle.flows.proofs.read_net.read_memories.Given as goal
 
 abbrev pub invariant-loop-i : goal.invariant-loop-i

@@ -1,9 +1,9 @@
 use Rattle.std.proofs.Common.{◌≡◌, ◌-◌, ◌≤◌, length, take, sym, refl, ap, ◌∙◌, arith}
 use Rattle.std.proofs.lemmas.Result.{err_from_is_err_and}
-use Rattle.bytes.specs.Reading.{read}
-use Rattle.bytes.specs.Numbers.{ranged}
-use Rattle.bytes.proofs.Sequence.{several_all}
-use Rattle.bytes.specs.Answers.{cursor}
+use Rattle.record_bytes.specs.Reading.{read}
+use Rattle.record_bytes.specs.Numbers.{ranged}
+use Rattle.record_bytes.proofs.Sequence.{several_all}
+use Rattle.record_bytes.specs.Answers.{cursor}
 use Rattle.flows.specs.Net.{net_model}
 use Rattle.flows.specs.NetFormat.{net_from, port_from}
 use Rattle.flows.proofs.NetLaws.{net_sound, places_sound}

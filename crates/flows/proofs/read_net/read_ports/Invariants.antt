@@ -1,7 +1,7 @@
 use Rattle.std.proofs.Common.{◌≡◌, length}
-use Rattle.bytes.specs.Reading.{several}
-use Rattle.bytes.specs.Answers.{cursor}
-use Rattle.bytes.proofs.Several.{Reads}
+use Rattle.record_bytes.specs.Reading.{several}
+use Rattle.record_bytes.specs.Answers.{cursor}
+use Rattle.record_bytes.proofs.Several.{Reads}
 use Rattle.flows.specs.NetFormat.{port_from}
 use Rattle.flows.proofs.read_net.read_ports.Given as goal
 

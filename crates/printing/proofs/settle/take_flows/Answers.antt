@@ -1,6 +1,6 @@
 use Rattle.std.proofs.Common.{◌≡◌, sym, refl, ap, ◌∙◌}
-use Rattle.bytes.proofs.Row.{next-shorter}
-use Rattle.bytes.specs.Row.{row}
+use Rattle.record_bytes.proofs.Row.{next-shorter}
+use Rattle.record_bytes.specs.Row.{row}
 use Rattle.script.specs.Models.{standing}
 use Rattle.script.specs.Session.{Standing}
 use Rattle.printing.proofs.OutputLaws.{all_next, all_end}

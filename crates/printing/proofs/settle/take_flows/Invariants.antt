@@ -1,5 +1,5 @@
 use Rattle.std.proofs.Common.{◌≡◌, length}
-use Rattle.bytes.specs.Row.{row}
+use Rattle.record_bytes.specs.Row.{row}
 use Rattle.script.specs.Models.{standing}
 use Rattle.script.specs.Session.{after_all}
 use Rattle.printing.proofs.settle.take_flows.Given as goal

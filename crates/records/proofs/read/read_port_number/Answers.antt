@@ -1,7 +1,7 @@
 use Rattle.std.proofs.Common.{◌≡◌, ◌<◌, ◌≤◌, length, take, refl, arith}
 use Rattle.std.proofs.lemmas.List.{length-take-le}
 use Rattle.std.proofs.lemmas.Bool.{lt-ltb, le-ltb}
-use Rattle.bytes.proofs.Taking.{tested_missing, tested-passed, tested_failed}
+use Rattle.record_bytes.proofs.Taking.{tested_missing, tested-passed, tested_failed}
 use Rattle.records.specs.Formats.{port_number}
 use Rattle.records.proofs.read.read_port_number.Goals as goal
 

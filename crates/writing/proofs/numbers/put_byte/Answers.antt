@@ -1,4 +1,4 @@
-use Rattle.bytes.proofs.Digits.{bytes_of_one}
+use Rattle.record_bytes.proofs.Digits.{bytes_of_one}
 use Rattle.writing.proofs.numbers.put_byte.Goals as goal
 
 pub returns : goal.returns

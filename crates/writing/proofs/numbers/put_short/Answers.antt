@@ -1,4 +1,4 @@
-use Rattle.bytes.proofs.Digits.{bytes_of_two}
+use Rattle.record_bytes.proofs.Digits.{bytes_of_two}
 use Rattle.writing.proofs.numbers.put_short.Goals as goal
 
 pub returns : goal.returns

@@ -1,4 +1,4 @@
-use Rattle.bytes.proofs.Digits.{bytes_of_four}
+use Rattle.record_bytes.proofs.Digits.{bytes_of_four}
 use Rattle.writing.proofs.numbers.put_word.Goals as goal
 
 pub returns : goal.returns

@@ -1,7 +1,7 @@
 use Rattle.std.proofs.Common.{◌≡◌, ℕ, ◌-◌, List, ◌++◌, length, take, vec_items, sym, ap, ◌∙◌, arith}
 use Rattle.std.proofs.lemmas.List.{length-take-le}
-use Rattle.bytes.specs.Numbers.{bytes_of}
-use Rattle.bytes.proofs.Written.{put_then}
+use Rattle.record_bytes.specs.Numbers.{bytes_of}
+use Rattle.record_bytes.proofs.Written.{put_then}
 use Rattle.writing.proofs.plans.put_flow.Goals as goal
 
 pub returns : goal.returns

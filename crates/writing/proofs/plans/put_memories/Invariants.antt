@@ -1,6 +1,6 @@
 use Rattle.std.proofs.Common.{◌≡◌, ◌++◌, take, vec_items}
 use Rattle.std.specs.List.{flat_map}
-use Rattle.bytes.specs.Numbers.{bytes_of}
+use Rattle.record_bytes.specs.Numbers.{bytes_of}
 use Rattle.writing.proofs.plans.put_memories.Given as goal
 
 abbrev pub invariant-loop-ticks : goal.invariant-loop-ticks

@@ -1,6 +1,6 @@
 use Rattle.std.proofs.Common.{◌≡◌, ℕ, List, ◌++◌, vec_items}
-use Rattle.bytes.specs.Numbers.{bytes_of}
-use Rattle.bytes.proofs.Written.{put_then}
+use Rattle.record_bytes.specs.Numbers.{bytes_of}
+use Rattle.record_bytes.proofs.Written.{put_then}
 use Rattle.writing.proofs.scripts.put_packet.Goals as goal
 
 pub returns : goal.returns

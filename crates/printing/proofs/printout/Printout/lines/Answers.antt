@@ -1,5 +1,5 @@
 use Rattle.std.proofs.Common.{◌≡◌, ℕ, ◌++◌, string_bytes, sym, refl, ap, ◌∙◌, arith}
-use Rattle.bytes.proofs.Row.{next-shorter}
+use Rattle.record_bytes.proofs.Row.{next-shorter}
 use Rattle.admission.specs.Plans.{plan_of}
 use Rattle.script.specs.Models.{standing}
 use Rattle.printing.specs.Output.{printed_all}

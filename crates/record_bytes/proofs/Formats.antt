@@ -2,12 +2,12 @@
 use Rattle.std.proofs.Common.{◌≡◌, ℕ, ◌+◌, Bool, true, false, List, [], ◌∷◌, ◌++◌, length, sym, refl, ap, ◌∙◌, subst, arith}
 use Rattle.std.specs.List.{AllByRecursion as All}
 use Rattle.std.proofs.lemmas.List.{append-nil, nil_from_length}
-use Rattle.bytes.specs.Reading.{Cursor, Outcome, read, fault, Verdict, accepted, refused, and_then, closed, start}
-use Rattle.bytes.specs.Numbers.{IsByte}
-use Rattle.bytes.specs.Format.{Format}
-use Rattle.bytes.proofs.Sequence.{closed-accepted}
-use Rattle.bytes.proofs.Written.{Told}
-use Rattle.bytes.proofs.Steady.{Steady, cut-refused}
+use Rattle.record_bytes.specs.Reading.{Cursor, Outcome, read, fault, Verdict, accepted, refused, and_then, closed, start}
+use Rattle.record_bytes.specs.Numbers.{IsByte}
+use Rattle.record_bytes.specs.Format.{Format}
+use Rattle.record_bytes.proofs.Sequence.{closed-accepted}
+use Rattle.record_bytes.proofs.Written.{Told}
+use Rattle.record_bytes.proofs.Steady.{Steady, cut-refused}
 
 module _ {A : Type 0} (Sound : A → Type 0) (body : Cursor → Outcome A) (write : A → List ℕ) where
   abbrev pub Writes : Type 0

@@ -1,12 +1,12 @@
 -- What the answers of the code say in the words of the definitions. Assumes nothing.
 use Rattle.std.specs.Prelude.{ℕ, List, Some, None, Ok, Err, Option, Result}
-use Rattle.bytes.specs.declared.fault.Fault.{Fault}
-use Rattle.bytes.specs.declared.fault.Fault.TheVariants.{Length, Range, Road}
-use Rattle.bytes.specs.declared.reader.Reader.{Reader}
-use Rattle.bytes.specs.declared.piece.Piece.{Piece}
-use Rattle.bytes.specs.declared.piece.Split.{Split}
-use Rattle.bytes.specs.Row.{Extent, Next, finished, found}
-use Rattle.bytes.specs.Reading.{Cursor, Outcome, read, fault, Verdict, accepted, refused, end_of}
+use Rattle.record_bytes.specs.declared.fault.Fault.{Fault}
+use Rattle.record_bytes.specs.declared.fault.Fault.TheVariants.{Length, Range, Road}
+use Rattle.record_bytes.specs.declared.reader.Reader.{Reader}
+use Rattle.record_bytes.specs.declared.piece.Piece.{Piece}
+use Rattle.record_bytes.specs.declared.piece.Split.{Split}
+use Rattle.record_bytes.specs.Row.{Extent, Next, finished, found}
+use Rattle.record_bytes.specs.Reading.{Cursor, Outcome, read, fault, Verdict, accepted, refused, end_of}
 
 -- the number of each fault
 abbrev pub fault_number : Fault → ℕ

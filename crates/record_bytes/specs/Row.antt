@@ -1,7 +1,7 @@
 -- The row of records: before each stands its length, two bytes, high byte first. Assumes nothing.
 use Rattle.std.specs.Prelude.{◌≡◌, ℕ, zero, suc, ◌<◌, Bool, true, false, cond, List, [], ◌∷◌, ◌++◌, length, take, drop, nat_le}
 use Rattle.std.specs.List.{AllByRecursion as All}
-use Rattle.bytes.specs.Numbers.{value, bytes_of, IsByte}
+use Rattle.record_bytes.specs.Numbers.{value, bytes_of, IsByte}
 
 -- the bytes of one record, and whether they are all there or the input ended before
 pub record Extent : Type 0 where

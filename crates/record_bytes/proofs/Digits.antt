@@ -4,7 +4,7 @@ use native.Mathlib.Nat.{mul-add-mod_self_right, pow-zero, pow-succ'}
 use Rattle.std.proofs.lemmas.List.{length_push, take_more}
 use Rattle.std.specs.List.{AllByRecursion as All}
 use Rattle.std.proofs.lemmas.Nat.{div-mul-add, mul-le}
-use Rattle.bytes.specs.Numbers.{value, bytes_of, IsByte}
+use Rattle.record_bytes.specs.Numbers.{value, bytes_of, IsByte}
 
 pub power_positive : (k : ℕ) → 0 < 256 ^ k
 power_positive zero = rw (pow-zero 256) (omega arith)

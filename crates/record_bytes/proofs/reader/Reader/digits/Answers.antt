@@ -1,9 +1,9 @@
 use Rattle.std.proofs.Common.{◌≡◌, ℕ, ◌^◌, ◌<◌, get_or, take, refl, ap, ◌∙◌, subst, arith}
-use Rattle.bytes.specs.Numbers.{value}
+use Rattle.record_bytes.specs.Numbers.{value}
 use Rattle.std.proofs.lemmas.List.{take_rest}
-use Rattle.bytes.proofs.Taking.{taking, missing}
-use Rattle.bytes.proofs.Digits.{value-more, digit_fits, digit_below}
-use Rattle.bytes.proofs.reader.Reader.digits.Goals as goal
+use Rattle.record_bytes.proofs.Taking.{taking, missing}
+use Rattle.record_bytes.proofs.Digits.{value-more, digit_fits, digit_below}
+use Rattle.record_bytes.proofs.reader.Reader.digits.Goals as goal
 
 pub returns-then-rest-size : goal.returns-then-rest-size
 returns-then-rest-size c =

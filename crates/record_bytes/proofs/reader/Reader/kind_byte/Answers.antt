@@ -1,8 +1,8 @@
 use Rattle.std.proofs.Common.{refl}
 use Rattle.std.proofs.lemmas.Bool.{eq-eqb, ne_eqb}
-use Rattle.bytes.specs.Numbers.{kind_byte}
-use Rattle.bytes.proofs.Taking.{tested_missing, tested-passed, tested_failed}
-use Rattle.bytes.proofs.reader.Reader.kind_byte.Goals as goal
+use Rattle.record_bytes.specs.Numbers.{kind_byte}
+use Rattle.record_bytes.proofs.Taking.{tested_missing, tested-passed, tested_failed}
+use Rattle.record_bytes.proofs.reader.Reader.kind_byte.Goals as goal
 
 pub returns-in-default : goal.returns-in-default
 unfolding kind_byte

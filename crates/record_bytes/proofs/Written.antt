@@ -4,10 +4,10 @@ use Rattle.std.specs.List.{AllByRecursion as All}
 use Rattle.std.proofs.lemmas.List.{take_at, drop_at, length-take-le}
 use Rattle.std.proofs.ByRecursion.{All-take, All-drop}
 use Rattle.std.proofs.lemmas.Bool.{le-leb, leb-true, eq-eqb, eqb-true, and_from, and_parts}
-use Rattle.bytes.specs.Reading.{Cursor, Outcome, read, fault, ahead, and_then}
-use Rattle.bytes.specs.Numbers.{number, tested, ranged, kind_byte, value, bytes_of, IsByte}
-use Rattle.bytes.proofs.Sequence.{both_read, test_passed}
-use Rattle.bytes.proofs.Digits.{length-bytes_of, value-bytes_of, bytes_of-value, value-below}
+use Rattle.record_bytes.specs.Reading.{Cursor, Outcome, read, fault, ahead, and_then}
+use Rattle.record_bytes.specs.Numbers.{number, tested, ranged, kind_byte, value, bytes_of, IsByte}
+use Rattle.record_bytes.proofs.Sequence.{both_read, test_passed}
+use Rattle.record_bytes.proofs.Digits.{length-bytes_of, value-bytes_of, bytes_of-value, value-below}
 
 -- what is put behind what was put before
 pub put_then : (a b c x y : List ℕ) → b ≡ a ++ x → c ≡ b ++ y → c ≡ a ++ (x ++ y)

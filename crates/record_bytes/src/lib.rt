@@ -1,4 +1,6 @@
 // The bytes of records: the row they stand in, and a reader that stops at the first fault.
+#![tactic(auto)]
+
 pub mod fault;
 pub mod piece;
 pub mod reader;

@@ -1,7 +1,7 @@
 // The records of an input, one after the other.
 ghost use Rattle.std.specs.Prelude.{◌≡◌, IfNone};
-ghost use Rattle.bytes.specs.Row.{next_record, OneRow};
-ghost use Rattle.bytes.specs.Answers.{following, first};
+ghost use Rattle.record_bytes.specs.Row.{next_record, OneRow};
+ghost use Rattle.record_bytes.specs.Answers.{following, first};
 
 use super::piece::{Piece, Split};
 

@@ -1,7 +1,7 @@
 use Rattle.std.proofs.Common.{◌≡◌, ℕ, ◌+◌, ◌-◌, ◌*◌, ◌<◌, ◌≤◌, List, [], length, get_or, take, drop, refl, ap, ◌∙◌, arith, rules}
 use Rattle.std.proofs.lemmas.List.{take_rest, drop_all}
-use Rattle.bytes.proofs.Row.{next-cut, next-whole, one_row}
-use Rattle.bytes.proofs.records.split_first.Goals as goal
+use Rattle.record_bytes.proofs.Row.{next-cut, next-whole, one_row}
+use Rattle.record_bytes.proofs.records.split_first.Goals as goal
 
 pub returns-then-len-lt1 : goal.returns-then-len-lt1
 returns-then-len-lt1 c = record { value = search rules; one = one_row }

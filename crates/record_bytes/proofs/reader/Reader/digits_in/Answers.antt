@@ -1,6 +1,6 @@
 use Rattle.std.proofs.Common.{refl}
-use Rattle.bytes.proofs.Taking.{ranged_missing, ranged_inside, ranged_outside}
-use Rattle.bytes.proofs.reader.Reader.digits_in.Goals as goal
+use Rattle.record_bytes.proofs.Taking.{ranged_missing, ranged_inside, ranged_outside}
+use Rattle.record_bytes.proofs.reader.Reader.digits_in.Goals as goal
 
 pub returns-in-default : goal.returns-in-default
 returns-in-default c =

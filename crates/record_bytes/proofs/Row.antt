@@ -4,9 +4,9 @@ use Rattle.std.specs.List.{AllByRecursion as All}
 use Rattle.std.proofs.ByRecursion.{All-drop}
 use Rattle.std.proofs.lemmas.List.{take_rest, take_at, drop_at, length-take-le, nil_from_length, append-nil}
 use Rattle.std.proofs.lemmas.Bool.{le-leb, lt-leb, leb-true, leb-false}
-use Rattle.bytes.specs.Numbers.{value, bytes_of, IsByte}
-use Rattle.bytes.specs.Row.{Extent, whole_record, cut_record, Next, finished, found, next_record, row_within, row, framed, IsRow, none, more, cut_inside, cut_length, OneRow}
-use Rattle.bytes.proofs.Digits.{bytes_of_two, bytes_of-value, length-bytes_of, value-bytes_of, value-below}
+use Rattle.record_bytes.specs.Numbers.{value, bytes_of, IsByte}
+use Rattle.record_bytes.specs.Row.{Extent, whole_record, cut_record, Next, finished, found, next_record, row_within, row, framed, IsRow, none, more, cut_inside, cut_length, OneRow}
+use Rattle.record_bytes.proofs.Digits.{bytes_of_two, bytes_of-value, length-bytes_of, value-bytes_of, value-below}
 
 size_two : (a b n : ℕ) → a * 256 + b ≡ n → value (a ∷ b ∷ []) ≡ n
 unfolding value

@@ -1,6 +1,6 @@
 -- Numbers in bytes, high byte first. Assumes nothing.
 use Rattle.std.specs.Prelude.{ℕ, zero, suc, ◌+◌, ◌*◌, ◌/◌, ◌%◌, ◌^◌, ◌<◌, Bool, cond, ◌&&◌, List, [], ◌∷◌, length, take, nat_eq, nat_le}
-use Rattle.bytes.specs.Reading.{Cursor, Outcome, read, fault, ahead, and_then, end_of}
+use Rattle.record_bytes.specs.Reading.{Cursor, Outcome, read, fault, ahead, and_then, end_of}
 
 -- what fits a byte
 abbrev pub IsByte : ℕ → Type 0

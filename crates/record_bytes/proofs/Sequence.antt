@@ -1,8 +1,8 @@
 -- What is known of the parts where a whole was read. Assumes nothing.
 use Rattle.std.proofs.Common.{◌≡◌, ℕ, zero, suc, ◌+◌, ◌≤◌, Bool, true, false, cond, ◌&&◌, eqb, leb, List, [], ◌∷◌, length, sym, refl, ap, subst, arith}
 use Rattle.std.proofs.lemmas.Bool.{eqb-true, eq-eqb, leb-true, and_parts}
-use Rattle.bytes.specs.Reading.{Cursor, Outcome, read, fault, Verdict, accepted, refused, and_then, several, closed}
-use Rattle.bytes.specs.Numbers.{number, ranged}
+use Rattle.record_bytes.specs.Reading.{Cursor, Outcome, read, fault, Verdict, accepted, refused, and_then, several, closed}
+use Rattle.record_bytes.specs.Numbers.{number, ranged}
 use Rattle.std.specs.List.{AllByRecursion as All}
 
 pub same_value : {A : Type 0} {v w : A} {c d : Cursor} → read v c ≡ read w d → v ≡ w

@@ -1,8 +1,8 @@
 -- A reader's step is the definition's: what is taken off the front, and what is missing. Assumes nothing.
 use Rattle.std.proofs.Common.{◌≡◌, ℕ, zero, suc, ◌+◌, ◌*◌, ◌^◌, ◌<◌, ◌≤◌, Bool, true, false, leb, ◌⊎◌, List, [], ◌∷◌, length, get_or, take, drop, sym, refl, ap, inl, inr, arith}
 use Rattle.std.proofs.lemmas.Bool.{le-leb, lt-leb, and_from, and_left, and_right}
-use Rattle.bytes.specs.Reading.{Cursor, Outcome, read, fault, end_of}
-use Rattle.bytes.specs.Numbers.{number, tested, ranged, value}
+use Rattle.record_bytes.specs.Reading.{Cursor, Outcome, read, fault, end_of}
+use Rattle.record_bytes.specs.Numbers.{number, tested, ranged, value}
 
 -- the front of xs as a number, and what is behind it
 pub taking : (k at n : ℕ) (xs ys : List ℕ) → k ≤ length xs → n ≡ value (take k xs) → ys ≡ drop k xs →

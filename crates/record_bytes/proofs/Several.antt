@@ -2,11 +2,11 @@
 use Rattle.std.proofs.Common.{◌≡◌, ℕ, zero, suc, ◌+◌, ◌-◌, ◌<◌, ◌≤◌, List, [], ◌∷◌, ◌++◌, length, take, set, sym, refl, ap, ◌∙◌, subst₂, append_assoc, add-zero, add_assoc, arith, length-append}
 use Rattle.std.proofs.lemmas.List.{take_more_set, append-nil}
 use Rattle.std.specs.List.{flat_map, AllByRecursion as All}
-use Rattle.bytes.specs.Reading.{Cursor, Outcome, read, fault, and_then, several}
-use Rattle.bytes.specs.Numbers.{IsByte}
-use Rattle.bytes.proofs.Sequence.{both_read}
-use Rattle.bytes.proofs.Written.{Told, told_then, told_none}
-use Rattle.bytes.proofs.Steady.{Steady, steady_then, steady_value}
+use Rattle.record_bytes.specs.Reading.{Cursor, Outcome, read, fault, and_then, several}
+use Rattle.record_bytes.specs.Numbers.{IsByte}
+use Rattle.record_bytes.proofs.Sequence.{both_read}
+use Rattle.record_bytes.proofs.Written.{Told, told_then, told_none}
+use Rattle.record_bytes.proofs.Steady.{Steady, steady_then, steady_value}
 
 -- what was read before, and then the rest
 abbrev pub behind : {A : Type 0} → List A → Outcome (List A) → Outcome (List A)

@@ -1,7 +1,7 @@
 ghost use Rattle.std.specs.Prelude.{◌≡◌, ◌^◌, ◌<◌, ◌≤◌, IfSome, IfNone, IfOk, OnErr};
-ghost use Rattle.bytes.specs.Reading.{start, end_of, read, closed};
-ghost use Rattle.bytes.specs.Numbers.{number, ranged, kind_byte};
-ghost use Rattle.bytes.specs.Answers.{cursor, taken, part, verdict};
+ghost use Rattle.record_bytes.specs.Reading.{start, end_of, read, closed};
+ghost use Rattle.record_bytes.specs.Numbers.{number, ranged, kind_byte};
+ghost use Rattle.record_bytes.specs.Answers.{cursor, taken, part, verdict};
 
 use super::fault::Fault;
 use super::reader::Reader;

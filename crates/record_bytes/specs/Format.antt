@@ -1,8 +1,8 @@
 -- What holds of the format of a kind of record. Assumes nothing.
 use Rattle.std.specs.Prelude.{◌≡◌, ℕ, ◌<◌, Bool, true, false, List, length, take, ◌≢◌}
 use Rattle.std.specs.List.{AllByRecursion as All}
-use Rattle.bytes.specs.Reading.{Verdict, accepted, refused}
-use Rattle.bytes.specs.Numbers.{IsByte}
+use Rattle.record_bytes.specs.Reading.{Verdict, accepted, refused}
+use Rattle.record_bytes.specs.Numbers.{IsByte}
 
 -- reading whole bytes: what a record is read as, where whole says that the input did not end inside it
 pub record Format {A : Type 0} (Sound : A → Type 0) (reading : Bool → List ℕ → Verdict A) (writing : A → List ℕ) : Type 0 where
