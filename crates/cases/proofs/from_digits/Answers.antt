@@ -16,7 +16,7 @@ loop-rest-smaller c =
 pub loop-rest-preserved : goal.loop-rest-preserved
 loop-rest-preserved c =
     let rest = c.loop-rest.rest.now in
-    rw (take_rest rest 2, c.in-ok-push.ensures.items)
+    rw (take_rest rest 2, c.in_ok-push.ensures.items)
     (spelled_on (vec_items c.loop-rest.bytes) rest _ c.in-Some.byte c.loop-rest-test.true c.in-Some.ensures c.loop-rest.invariant)
 
 pub returns : goal.returns

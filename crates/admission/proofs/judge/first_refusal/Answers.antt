@@ -21,14 +21,14 @@ pub returns-in-Some-first-late : goal.returns-in-Some-first-late
 returns-in-Some-first-late c =
     let flows = c.args.flows.now in
     let few = le-ltb 256 (length flows) c.if-flows-gt256.false in
-    record { value = rw (length-map flows numbered_model, few, ← c.in-default.ensures, ← c.in-Some-first-late.ensures) refl; law = (lowest_law, admission_laws) }
+    record { value = rw (length-map flows numbered_model, few, ← c.in_default.ensures, ← c.in-Some-first-late.ensures) refl; law = (lowest_law, admission_laws) }
 
-pub returns-in-default-first-short : goal.returns-in-default-first-short
-returns-in-default-first-short c =
+pub returns-in_default-first-short : goal.returns-in_default-first-short
+returns-in_default-first-short c =
     let flows = c.args.flows.now in
     let few = le-ltb 256 (length flows) c.if-flows-gt256.false in
     record {
-      value = rw (length-map flows numbered_model, few, ← c.in-default.ensures, ← c.in-default-first-late.ensures, ← c.in-default-first-short.ensures) refl;
+      value = rw (length-map flows numbered_model, few, ← c.in_default.ensures, ← c.in_default-first-late.ensures, ← c.in_default-first-short.ensures) refl;
       law = (lowest_law, admission_laws);
     }
 
@@ -37,6 +37,6 @@ returns c =
     let flows = c.args.flows.now in
     let few = le-ltb 256 (length flows) c.if-flows-gt256.false in
     record {
-      value = rw (length-map flows numbered_model, few, ← c.in-default.ensures, ← c.in-default-first-late.ensures, ← c.in-Some-first-short.ensures) refl;
+      value = rw (length-map flows numbered_model, few, ← c.in_default.ensures, ← c.in_default-first-late.ensures, ← c.in-Some-first-short.ensures) refl;
       law = (lowest_law, admission_laws);
     }

@@ -5,8 +5,8 @@ use Rattle.flows.proofs.RoadLaws.{port_missing, port_unknown, port_barred, port-
 use Rattle.flows.proofs.read_flow.read_road_port.Goals as goal
 use Rattle.flows.proofs.read_flow.read_road_port.Goals.{then-on-road-via-then-on-road, then-on-road-via-else-on-road+then-not-follows}
 
-pub returns-in-default : goal.returns-in-default
-returns-in-default c = rw c.missing.ensures (port_missing _ _ _ _ c.in-default.ensures.value)
+pub returns-in_default : goal.returns-in_default
+returns-in_default c = rw c.missing.ensures (port_missing _ _ _ _ c.in_default.ensures.value)
 
 pub returns-then-port-net : goal.returns-then-port-net
 returns-then-port-net c =

@@ -4,16 +4,16 @@ use Rattle.record_bytes.proofs.Several.{reads_on, reads_fault, reads_end}
 use Rattle.record_bytes.specs.Numbers.{ranged}
 use Rattle.flows.proofs.read_net.read_memories.Goals as goal
 
-pub returns-in-err-ticks : goal.returns-in-err-ticks
-returns-in-err-ticks c =
+pub returns-in_err-ticks : goal.returns-in_err-ticks
+returns-in_err-ticks c =
     let p = err_from_is_err_and c.from-residual.result c.from-residual.ensures.1 in
     rw (p.1, p.2)
-    (reads_fault _ _ (ranged 4 0 1048576) _ _ _ _ _ c.loop-i-test.true c.in-err-ticks.ensures.value c.loop-i.invariant.1)
+    (reads_fault _ _ (ranged 4 0 1048576) _ _ _ _ _ c.loop-i-test.true c.in_err-ticks.ensures.value c.loop-i.invariant.1)
 
 pub loop-i-preserved : goal.loop-i-preserved
 loop-i-preserved c = (
   length-set c.loop-i.memory c.loop-i.i _ ∙ c.loop-i.invariant.0,
-  reads_on _ c.loop-i.i (ranged 4 0 1048576) c.loop-i.memory _ _ _ _ c.loop-i-test.true (omega (arith, c.loop-i.invariant.0)) c.in-ok-ticks.ensures.value c.loop-i.invariant.1,
+  reads_on _ c.loop-i.i (ranged 4 0 1048576) c.loop-i.memory _ _ _ _ c.loop-i-test.true (omega (arith, c.loop-i.invariant.0)) c.in_ok-ticks.ensures.value c.loop-i.invariant.1,
 )
 
 pub returns : goal.returns

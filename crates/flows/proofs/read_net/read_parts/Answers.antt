@@ -9,72 +9,72 @@ use Rattle.flows.specs.NetFormat.{net_from, port_from}
 use Rattle.flows.proofs.NetLaws.{net_sound, places_sound}
 use Rattle.flows.proofs.read_net.read_parts.Goals as goal
 
-pub returns-in-err-kind : goal.returns-in-err-kind
+pub returns-in_err-kind : goal.returns-in_err-kind
 unfolding net_from
-returns-in-err-kind c =
+returns-in_err-kind c =
     let p = err_from_is_err_and c.from-residual.result c.from-residual.ensures.1 in
-    rw (p.1, p.2, ← c.in-err-kind.ensures.value) refl
+    rw (p.1, p.2, ← c.in_err-kind.ensures.value) refl
 
-pub returns-in-err-count : goal.returns-in-err-count
+pub returns-in_err-count : goal.returns-in_err-count
 unfolding net_from
-returns-in-err-count c =
-    let p = err_from_is_err_and c.from-residual-in-err-count.result c.from-residual-in-err-count.ensures.1 in
-    rw (p.1, p.2, ← c.in-ok-kind.ensures.value, ← c.in-err-count.ensures.value) refl
+returns-in_err-count c =
+    let p = err_from_is_err_and c.from-residual-in_err-count.result c.from-residual-in_err-count.ensures.1 in
+    rw (p.1, p.2, ← c.in_ok-kind.ensures.value, ← c.in_err-count.ensures.value) refl
 
-pub returns-in-err-ports : goal.returns-in-err-ports
+pub returns-in_err-ports : goal.returns-in_err-ports
 unfolding net_from
-returns-in-err-ports c =
-    let p = err_from_is_err_and c.from-residual-in-err-ports.result c.from-residual-in-err-ports.ensures.1 in
-    rw (p.1, p.2, ← c.in-ok-kind.ensures.value, ← c.in-ok-count.ensures.value, ← c.in-err-ports.ensures) refl
+returns-in_err-ports c =
+    let p = err_from_is_err_and c.from-residual-in_err-ports.result c.from-residual-in_err-ports.ensures.1 in
+    rw (p.1, p.2, ← c.in_ok-kind.ensures.value, ← c.in_ok-count.ensures.value, ← c.in_err-ports.ensures) refl
 
-pub returns-in-err-switches : goal.returns-in-err-switches
+pub returns-in_err-switches : goal.returns-in_err-switches
 unfolding net_from
-returns-in-err-switches c =
-    let whole : c.in-ok-count.count - 0 ≡ c.in-ok-count.count = omega arith in
+returns-in_err-switches c =
+    let whole : c.in_ok-count.count - 0 ≡ c.in_ok-count.count = omega arith in
     let needs = rw whole at c.switches-needed-needed.ensures in
-    let p = err_from_is_err_and c.from-residual-in-err-switches.result c.from-residual-in-err-switches.ensures.1 in
-    rw (p.1, p.2, ← c.in-ok-kind.ensures.value, ← c.in-ok-count.ensures.value, ← c.in-ok-ports.ensures, ← needs, ← c.in-err-switches.ensures.value) refl
+    let p = err_from_is_err_and c.from-residual-in_err-switches.result c.from-residual-in_err-switches.ensures.1 in
+    rw (p.1, p.2, ← c.in_ok-kind.ensures.value, ← c.in_ok-count.ensures.value, ← c.in_ok-ports.ensures, ← needs, ← c.in_err-switches.ensures.value) refl
 
-pub returns-in-err-memory : goal.returns-in-err-memory
+pub returns-in_err-memory : goal.returns-in_err-memory
 unfolding net_from
-returns-in-err-memory c =
-    let whole : c.in-ok-count.count - 0 ≡ c.in-ok-count.count = omega arith in
+returns-in_err-memory c =
+    let whole : c.in_ok-count.count - 0 ≡ c.in_ok-count.count = omega arith in
     let needs = rw whole at c.switches-needed-needed.ensures in
-    let p = err_from_is_err_and c.from-residual-in-err-memory.result c.from-residual-in-err-memory.ensures.1 in
-    rw (p.1, p.2, ← c.in-ok-kind.ensures.value, ← c.in-ok-count.ensures.value, ← c.in-ok-ports.ensures, ← needs, ← c.in-ok-switches.ensures.value, ← c.in-err-memory.ensures) refl
+    let p = err_from_is_err_and c.from-residual-in_err-memory.result c.from-residual-in_err-memory.ensures.1 in
+    rw (p.1, p.2, ← c.in_ok-kind.ensures.value, ← c.in_ok-count.ensures.value, ← c.in_ok-ports.ensures, ← needs, ← c.in_ok-switches.ensures.value, ← c.in_err-memory.ensures) refl
 
-pub invariant-of-result : goal.invariant-of-result
+pub invariant_of-result : goal.invariant_of-result
 unfolding net_from
-invariant-of-result c =
-    let whole : c.in-ok-count.count - 0 ≡ c.in-ok-count.count = omega arith in
+invariant_of-result c =
+    let whole : c.in_ok-count.count - 0 ≡ c.in_ok-count.count = omega arith in
     let needs = rw whole at c.switches-needed-needed.ensures in
-    let ports = c.in-ok-ports.ports in
-    let memory = c.in-ok-memory.memory in
-    let net = net_model ports c.in-ok-count.count memory c.in-ok-switches.switches in
+    let ports = c.in_ok-ports.ports in
+    let memory = c.in_ok-memory.memory in
+    let net = net_model ports c.in_ok-count.count memory c.in_ok-switches.switches in
     let is : net_from c.args.least (cursor c.args.reader.now) ≡ read net (cursor c.read-memories.new.reader) =
     rw (
-      ← c.in-ok-kind.ensures.value,
-      ← c.in-ok-count.ensures.value,
-      ← c.in-ok-ports.ensures,
+      ← c.in_ok-kind.ensures.value,
+      ← c.in_ok-count.ensures.value,
+      ← c.in_ok-ports.ensures,
       ← needs,
-      ← c.in-ok-switches.ensures.value,
-      ← c.in-ok-memory.ensures,
+      ← c.in_ok-switches.ensures.value,
+      ← c.in_ok-memory.ensures,
     ) refl in
     let sound = net_sound c.args.least net (cursor c.args.reader.now) (cursor c.read-memories.new.reader) is in
-    let ports-size = (several_all (λ _. Unit {0}) port_from (λ v d e is. tt) _ _ _ _ (sym c.in-ok-ports.ensures)).0 in
-    let memory-size = (several_all (λ _. Unit {0}) (ranged 4 0 1048576) (λ v d e is. tt) _ _ _ _ (sym c.in-ok-memory.ensures)).0 in
-    places_sound ports c.in-ok-count.count memory c.in-ok-switches.switches ports-size memory-size sound.0
+    let ports-size = (several_all (λ _. Unit {0}) port_from (λ v d e is. tt) _ _ _ _ (sym c.in_ok-ports.ensures)).0 in
+    let memory-size = (several_all (λ _. Unit {0}) (ranged 4 0 1048576) (λ v d e is. tt) _ _ _ _ (sym c.in_ok-memory.ensures)).0 in
+    places_sound ports c.in_ok-count.count memory c.in_ok-switches.switches ports-size memory-size sound.0
 
 pub returns : goal.returns
 unfolding net_from
 returns c =
-    let whole : c.in-ok-count.count - 0 ≡ c.in-ok-count.count = omega arith in
+    let whole : c.in_ok-count.count - 0 ≡ c.in_ok-count.count = omega arith in
     let needs = rw whole at c.switches-needed-needed.ensures in
     rw (
-      ← c.in-ok-kind.ensures.value,
-      ← c.in-ok-count.ensures.value,
-      ← c.in-ok-ports.ensures,
+      ← c.in_ok-kind.ensures.value,
+      ← c.in_ok-count.ensures.value,
+      ← c.in_ok-ports.ensures,
       ← needs,
-      ← c.in-ok-switches.ensures.value,
-      ← c.in-ok-memory.ensures,
+      ← c.in_ok-switches.ensures.value,
+      ← c.in_ok-memory.ensures,
     ) refl

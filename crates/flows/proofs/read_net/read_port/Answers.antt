@@ -3,22 +3,22 @@ use Rattle.std.proofs.lemmas.Result.{err_from_is_err_and}
 use Rattle.flows.specs.NetFormat.{port_from}
 use Rattle.flows.proofs.read_net.read_port.Goals as goal
 
-pub returns-in-default : goal.returns-in-default
+pub returns-in_default : goal.returns-in_default
 unfolding port_from
-returns-in-default c = rw (c.missing.ensures, ← c.in-default.ensures.value) refl
+returns-in_default c = rw (c.missing.ensures, ← c.in_default.ensures.value) refl
 
-pub returns-in-default-byte : goal.returns-in-default-byte
+pub returns-in_default-byte : goal.returns-in_default-byte
 unfolding port_from
-returns-in-default-byte c =
-    rw (c.missing-in-default-byte.ensures, ← c.in-Some.ensures.value, ← c.in-default-byte.ensures.value) refl
+returns-in_default-byte c =
+    rw (c.missing-in_default-byte.ensures, ← c.in-Some.ensures.value, ← c.in_default-byte.ensures.value) refl
 
-pub returns-in-err-wire : goal.returns-in-err-wire
+pub returns-in_err-wire : goal.returns-in_err-wire
 unfolding port_from
-returns-in-err-wire c =
+returns-in_err-wire c =
     let p = err_from_is_err_and c.from-residual.result c.from-residual.ensures.1 in
-    rw (p.1, p.2, ← c.in-Some.ensures.value, ← c.in-Some-byte.ensures.value, ← c.in-err-wire.ensures.value) refl
+    rw (p.1, p.2, ← c.in-Some.ensures.value, ← c.in-Some-byte.ensures.value, ← c.in_err-wire.ensures.value) refl
 
 pub returns : goal.returns
 unfolding port_from
 returns c =
-    rw (← c.in-Some.ensures.value, ← c.in-Some-byte.ensures.value, ← c.in-ok-wire.ensures.value) refl
+    rw (← c.in-Some.ensures.value, ← c.in-Some-byte.ensures.value, ← c.in_ok-wire.ensures.value) refl

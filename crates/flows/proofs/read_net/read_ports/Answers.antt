@@ -4,16 +4,16 @@ use Rattle.record_bytes.proofs.Several.{reads_on, reads_fault, reads_end}
 use Rattle.flows.specs.NetFormat.{port_from}
 use Rattle.flows.proofs.read_net.read_ports.Goals as goal
 
-pub returns-in-err-port : goal.returns-in-err-port
-returns-in-err-port c =
+pub returns-in_err-port : goal.returns-in_err-port
+returns-in_err-port c =
     let p = err_from_is_err_and c.from-residual.result c.from-residual.ensures.1 in
     rw (p.1, p.2)
-    (reads_fault _ _ port_from _ _ _ _ _ c.loop-i-test.true c.in-err-port.ensures c.loop-i.invariant.1)
+    (reads_fault _ _ port_from _ _ _ _ _ c.loop-i-test.true c.in_err-port.ensures c.loop-i.invariant.1)
 
 pub loop-i-preserved : goal.loop-i-preserved
 loop-i-preserved c = (
   length-set c.loop-i.ports c.loop-i.i _ ∙ c.loop-i.invariant.0,
-  reads_on _ c.loop-i.i port_from c.loop-i.ports _ _ _ _ c.loop-i-test.true (omega (arith, c.loop-i.invariant.0)) c.in-ok-port.ensures c.loop-i.invariant.1,
+  reads_on _ c.loop-i.i port_from c.loop-i.ports _ _ _ _ c.loop-i-test.true (omega (arith, c.loop-i.invariant.0)) c.in_ok-port.ensures c.loop-i.invariant.1,
 )
 
 pub returns : goal.returns

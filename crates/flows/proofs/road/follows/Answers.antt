@@ -2,8 +2,8 @@ use Rattle.std.proofs.Common.{◌≡◌, sym, refl, ◌∙◌}
 use Rattle.flows.proofs.RoadLaws.{joins-first, joins-last}
 use Rattle.flows.proofs.road.follows.Goals as goal
 
-pub returns-in-default : goal.returns-in-default
-returns-in-default c = joins-first _ _ _ c.in-default.ensures.item.3
+pub returns-in_default : goal.returns-in_default
+returns-in_default c = joins-first _ _ _ c.in_default.ensures.item.3
 
 pub returns : goal.returns
 returns c =

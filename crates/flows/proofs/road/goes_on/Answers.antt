@@ -3,8 +3,8 @@ use Rattle.std.proofs.lemmas.Bool.{ltb-false}
 use Rattle.flows.proofs.LeadLaws.{leads_exactly, goes_none, goes_first}
 use Rattle.flows.proofs.road.goes_on.Goals as goal
 
-pub returns-in-default : goal.returns-in-default
-returns-in-default c = record { value = goes_none _ _ _ c.in-default.ensures.item.3; law = leads_exactly }
+pub returns-in_default : goal.returns-in_default
+returns-in_default c = record { value = goes_none _ _ _ c.in_default.ensures.item.3; law = leads_exactly }
 
 pub returns : goal.returns
 returns c =

@@ -25,6 +25,6 @@ returns c =
           opens-on (size c.args.memory.now) (size c.loop-rest.memory) c.args.at-edge c.args.classes.now c.args.tick
           c.args.waiting.now c.loop-rest.left c.loop-rest.levels sofar.present _ same sofar.ends
           c.loop-rest.left c.pass-first.new.levels c.pass-first.new.queues c.pass-first.new.memory
-          (c.in-default.ensures.step sofar.present sofar.fits sofar.held);
+          (c.in_default.ensures.step sofar.present sofar.fits sofar.held);
       laws = gate_laws;
     }

@@ -5,14 +5,14 @@ use Rattle.gates.specs.Gates.{may_go}
 use Rattle.gates.proofs.StepLaws.{opens_none, opens_refused, ends-rest, drop_less}
 use Rattle.gates.proofs.gate.pass_first.Goals as goal
 
-pub returns-in-default : goal.returns-in-default
-returns-in-default c =
+pub returns-in_default : goal.returns-in_default
+returns-in_default c =
     record {
       shorter = tt;
       step = λ ls fits held.
           opens_none (size c.args.memory.now) c.args.at-edge c.args.classes.now c.args.tick
           c.args.waiting.now c.args.gate c.args.levels.now c.args.queues.now c.args.memory.now ls fits held
-          (sym c.in-default.is ∙ c.first.ensures.means fits);
+          (sym c.in_default.is ∙ c.first.ensures.means fits);
     }
 
 pub returns-then-not-pass : goal.returns-then-not-pass

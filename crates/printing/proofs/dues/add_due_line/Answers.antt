@@ -17,6 +17,6 @@ returns c =
     ap (λ n. get_or (take hops d.ticks) (n - 1) 0) size ∙ get_or-take hops d.ticks (hops - 1) 0 (omega (arith, d.flow.hops_some)) in
     let whole : hops - 0 ≡ hops = omega arith in
     line_of text first (string_bytes c.add-ports.new.text) _ _ _
-    (c.in-ok-add-due.ensures ∙ ap (λ due. text ++ due_text c.args.number due) (sym last))
-    (c.in-ok-add-ports.ensures ∙ ap (λ n. first ++ ports_text (codes ":") (take n d.flow.road) (take n d.ticks)) whole)
-    c.in-ok-push.ensures.bytes
+    (c.in_ok-add-due.ensures ∙ ap (λ due. text ++ due_text c.args.number due) (sym last))
+    (c.in_ok-add-ports.ensures ∙ ap (λ n. first ++ ports_text (codes ":") (take n d.flow.road) (take n d.ticks)) whole)
+    c.in_ok-push.ensures.bytes

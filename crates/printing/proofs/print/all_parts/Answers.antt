@@ -9,14 +9,14 @@ loop-next-init c = ap (λ xs. xs ++ still_to_come (Some c.args.first)) c.new-tex
 pub loop-next-preserved : goal.loop-next-preserved
 loop-next-preserved c =
     let text = string_bytes c.loop-next.text in
-    let rest = still_to_come c.in-ok-part.part.rest in
-    let part = string_bytes c.in-ok-part.part.text in
+    let rest = still_to_come c.in_ok-part.part.rest in
+    let part = string_bytes c.in_ok-part.part.text in
     let added : string_bytes c.push-str.new.self ≡ text ++ part =
-    c.in-ok-push-str.ensures.bytes ∙ ap (λ xs. text ++ xs) c.as-str.ensures.value in
-    ap (λ xs. xs ++ rest) added ∙ append_assoc text part rest ∙ ap (λ xs. text ++ xs) (told_on part c.in-ok-part.part.rest _ c.in-ok-part.ensures.text)
+    c.in_ok-push-str.ensures.bytes ∙ ap (λ xs. text ++ xs) c.as-str.ensures.value in
+    ap (λ xs. xs ++ rest) added ∙ append_assoc text part rest ∙ ap (λ xs. text ++ xs) (told_on part c.in_ok-part.part.rest _ c.in_ok-part.ensures.text)
     ∙ ap (λ o. text ++ still_to_come o) (sym c.in-Some.is) ∙ c.loop-next.invariant
 
 pub returns : goal.returns
 returns c =
     let text = string_bytes c.loop-next.text in
-    sym (append-nil text) ∙ ap (λ o. text ++ still_to_come o) (sym c.in-default.is) ∙ c.loop-next.invariant
+    sym (append-nil text) ∙ ap (λ o. text ++ still_to_come o) (sym c.in_default.is) ∙ c.loop-next.invariant

@@ -11,16 +11,16 @@ loop-piece-smaller c = next-shorter _ _ _ (sym c.in-Some.ensures.value)
 
 pub loop-piece-preserved : goal.loop-piece-preserved
 loop-piece-preserved c =
-    all_next (standing c.loop-piece.session) (c.in-ok-take.field-0, standing c.take.new.self) _ _ _ _
-    c.in-Some.ensures.value c.in-ok-take.ensures.value c.loop-piece.invariant
+    all_next (standing c.loop-piece.session) (c.in_ok-take.field-0, standing c.take.new.self) _ _ _ _
+    c.in-Some.ensures.value c.in_ok-take.ensures.value c.loop-piece.invariant
 
 pub returns-in-Running : goal.returns-in-Running
 returns-in-Running c =
-    let so_far = all_next (standing c.loop-piece.session) (c.in-ok-take.field-0, standing c.take.new.self) _ _ _ _
-    c.in-Some.ensures.value c.in-ok-take.ensures.value c.loop-piece.invariant in
-    let settled = c.in-ok-take.ensures.laws.3 in
+    let so_far = all_next (standing c.loop-piece.session) (c.in_ok-take.field-0, standing c.take.new.self) _ _ _ _
+    c.in-Some.ensures.value c.in_ok-take.ensures.value c.loop-piece.invariant in
+    let settled = c.in_ok-take.ensures.laws.3 in
     sym (settled (standing c.take.new.self) (row c.next.new.self.rest.now) c.in-Running.is) ∙ ap (λ (s : Standing). s.plan) so_far
 
 pub returns : goal.returns
 returns c =
-    ap (λ (s : Standing). s.plan) (all_end (standing c.loop-piece.session) _ _ c.in-default.ensures.value c.loop-piece.invariant)
+    ap (λ (s : Standing). s.plan) (all_end (standing c.loop-piece.session) _ _ c.in_default.ensures.value c.loop-piece.invariant)

@@ -13,21 +13,21 @@ ports-few net = rw (length-take net.count net.ports) (below net.count (length ne
     below : (m n : ℕ) → m ≤ 64 → min m n ≤ 64
     below m n h = omega arith
 
-pub returns-in-err-packet : goal.returns-in-err-packet
+pub returns-in_err-packet : goal.returns-in_err-packet
 unfolding arrival_from
-returns-in-err-packet c =
+returns-in_err-packet c =
     let p = err_from_is_err_and c.from-residual.result c.from-residual.ensures.1 in
     record {
-      value = rw (p.1, p.2, ← c.new-reader.ensures, ← c.in-err-packet.ensures) refl;
+      value = rw (p.1, p.2, ← c.new-reader.ensures, ← c.in_err-packet.ensures) refl;
       format = arrival_format _ (ports-few c.args.net.now);
     }
 
-pub returns-in-err-port : goal.returns-in-err-port
+pub returns-in_err-port : goal.returns-in_err-port
 unfolding arrival_from
-returns-in-err-port c =
-    let p = err_from_is_err_and c.from-residual-in-err-port.result c.from-residual-in-err-port.ensures.1 in
+returns-in_err-port c =
+    let p = err_from_is_err_and c.from-residual-in_err-port.result c.from-residual-in_err-port.ensures.1 in
     record {
-      value = rw (p.1, p.2, ← c.new-reader.ensures, ← c.in-ok-packet.ensures, ← c.in-err-port.ensures) refl;
+      value = rw (p.1, p.2, ← c.new-reader.ensures, ← c.in_ok-packet.ensures, ← c.in_err-port.ensures) refl;
       format = arrival_format _ (ports-few c.args.net.now);
     }
 
@@ -35,6 +35,6 @@ pub returns : goal.returns
 unfolding arrival_from
 returns c =
     record {
-      value = rw (c.close.ensures, ← c.new-reader.ensures, ← c.in-ok-packet.ensures, ← c.in-ok-port.ensures) refl;
+      value = rw (c.close.ensures, ← c.new-reader.ensures, ← c.in_ok-packet.ensures, ← c.in_ok-port.ensures) refl;
       format = arrival_format _ (ports-few c.args.net.now);
     }

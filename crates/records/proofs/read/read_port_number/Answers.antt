@@ -5,9 +5,9 @@ use Rattle.record_bytes.proofs.Taking.{tested_missing, tested-passed, tested_fai
 use Rattle.records.specs.Formats.{port_number}
 use Rattle.records.proofs.read.read_port_number.Goals as goal
 
-pub returns-in-default : goal.returns-in-default
+pub returns-in_default : goal.returns-in_default
 unfolding port_number
-returns-in-default c = rw c.missing.ensures (tested_missing 1 _ 2 _ _ c.in-default.ensures.value)
+returns-in_default c = rw c.missing.ensures (tested_missing 1 _ 2 _ _ c.in_default.ensures.value)
 
 pub returns-then-port-net : goal.returns-then-port-net
 unfolding port_number

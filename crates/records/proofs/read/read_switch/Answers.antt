@@ -4,20 +4,20 @@ use Rattle.records.specs.Formats.{switch_from}
 use Rattle.records.proofs.FormatLaws.{switch_format}
 use Rattle.records.proofs.read.read_switch.Goals as goal
 
-pub returns-in-err-kind : goal.returns-in-err-kind
+pub returns-in_err-kind : goal.returns-in_err-kind
 unfolding switch_from
-returns-in-err-kind c =
+returns-in_err-kind c =
     let p = err_from_is_err_and c.from-residual.result c.from-residual.ensures.1 in
     record {
-      value = rw (p.1, p.2, ← c.new-reader.ensures, ← c.in-err-kind.ensures.value) refl;
+      value = rw (p.1, p.2, ← c.new-reader.ensures, ← c.in_err-kind.ensures.value) refl;
       format = switch_format;
     }
 
-pub returns-in-default : goal.returns-in-default
+pub returns-in_default : goal.returns-in_default
 unfolding switch_from
-returns-in-default c =
+returns-in_default c =
     record {
-      value = rw (c.missing.ensures, ← c.new-reader.ensures, ← c.in-ok-kind.ensures.value, ← c.in-default.ensures.value) refl;
+      value = rw (c.missing.ensures, ← c.new-reader.ensures, ← c.in_ok-kind.ensures.value, ← c.in_default.ensures.value) refl;
       format = switch_format;
     }
 
@@ -25,6 +25,6 @@ pub returns : goal.returns
 unfolding switch_from
 returns c =
     record {
-      value = rw (c.close.ensures, ← c.new-reader.ensures, ← c.in-ok-kind.ensures.value, ← c.in-Some.ensures.value) refl;
+      value = rw (c.close.ensures, ← c.new-reader.ensures, ← c.in_ok-kind.ensures.value, ← c.in-Some.ensures.value) refl;
       format = switch_format;
     }

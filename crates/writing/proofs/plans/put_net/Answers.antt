@@ -24,9 +24,9 @@ returns c =
     let b4 : List ℕ = bytes_of 1 (length (take net.switches net.memory)) in
     let l5 : List ℕ = vec_items c.put-memories.new.out in
     let b5 : List ℕ = flat_map (bytes_of 4) (take net.switches net.memory) in
-    let p1 : l1 ≡ l0 ++ b1 = c.in-ok-put-byte.ensures in
-    let p2 : l2 ≡ l1 ++ b2 = c.in-ok-put-byte-2.ensures ∙ ap (λ n. l1 ++ bytes_of 1 n) (sym ports) in
-    let p3 : l3 ≡ l2 ++ b3 = c.in-ok-put-ports.ensures ∙ ap (λ n. l2 ++ flat_map port_bytes (take n net.ports)) all-ports in
-    let p4 : l4 ≡ l3 ++ b4 = c.in-ok-put-byte-3.ensures ∙ ap (λ n. l3 ++ bytes_of 1 n) (sym switches) in
-    let p5 : l5 ≡ l4 ++ b5 = c.in-ok-put-memories.ensures ∙ ap (λ n. l4 ++ flat_map (bytes_of 4) (take n net.memory)) all-switches in
+    let p1 : l1 ≡ l0 ++ b1 = c.in_ok-put-byte.ensures in
+    let p2 : l2 ≡ l1 ++ b2 = c.in_ok-put-byte-2.ensures ∙ ap (λ n. l1 ++ bytes_of 1 n) (sym ports) in
+    let p3 : l3 ≡ l2 ++ b3 = c.in_ok-put-ports.ensures ∙ ap (λ n. l2 ++ flat_map port_bytes (take n net.ports)) all-ports in
+    let p4 : l4 ≡ l3 ++ b4 = c.in_ok-put-byte-3.ensures ∙ ap (λ n. l3 ++ bytes_of 1 n) (sym switches) in
+    let p5 : l5 ≡ l4 ++ b5 = c.in_ok-put-memories.ensures ∙ ap (λ n. l4 ++ flat_map (bytes_of 4) (take n net.memory)) all-switches in
     put_then l0 l1 l5 b1 (b2 ++ (b3 ++ (b4 ++ (b5)))) p1 (put_then l1 l2 l5 b2 (b3 ++ (b4 ++ (b5))) p2 (put_then l2 l3 l5 b3 (b4 ++ (b5)) p3 (put_then l3 l4 l5 b4 (b5) p4 (p5))))

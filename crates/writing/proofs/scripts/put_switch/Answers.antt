@@ -10,6 +10,6 @@ returns c =
     let b1 : List ℕ = bytes_of 1 5 in
     let l2 : List ℕ = vec_items c.put-byte-2.new.out in
     let b2 : List ℕ = bytes_of 1 c.args.switch.number in
-    let p1 : l1 ≡ l0 ++ b1 = c.in-ok-put-byte.ensures in
-    let p2 : l2 ≡ l1 ++ b2 = c.in-ok-put-byte-2.ensures in
+    let p1 : l1 ≡ l0 ++ b1 = c.in_ok-put-byte.ensures in
+    let p2 : l2 ≡ l1 ++ b2 = c.in_ok-put-byte-2.ensures in
     put_then l0 l1 l2 b1 (b2) p1 (p2)

@@ -8,13 +8,13 @@ use Rattle.admission.proofs.KeepLaws.{none_loads, none-pairs}
 use Rattle.admission.proofs.PlanLaws.{none_passes, sums_told, judged-more}
 use Rattle.admission.proofs.plan.Plan.empty.Goals as goal
 
-pub invariant-of-result : goal.invariant-of-result
+pub invariant_of-result : goal.invariant_of-result
 unfolding all_roads
-invariant-of-result c =
+invariant_of-result c =
     let empty = c.new-2.ensures.items in (
       ap (λ ns. keeps_loads (loads_model c.none-2.result) (flows_of (map numbered_model ns))) empty ∙ none_loads _ c.none-2.ensures,
       (
-        ap (λ ns. keeps_pairs (pairs_model (box_value c.in-ok-pairs.pairs)) (flows_of (map numbered_model ns))) empty ∙ none-pairs _ (ap pairs_model c.in-ok-pairs.ensures.ok ∙ c.none.ensures),
+        ap (λ ns. keeps_pairs (pairs_model (box_value c.in_ok-pairs.pairs)) (flows_of (map numbered_model ns))) empty ∙ none-pairs _ (ap pairs_model c.in_ok-pairs.ensures.ok ∙ c.none.ensures),
         (
           ap (λ ns. all_roads (net_of c.args.net) (flows_of (map numbered_model ns))) empty,
           (ap (λ ns. passes_all (net_of c.args.net) (map numbered_model ns)) empty ∙ none_passes (net_of c.args.net), tt),

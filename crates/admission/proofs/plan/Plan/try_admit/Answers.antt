@@ -25,23 +25,23 @@ returns-then-len-ge256 c =
     let crowded = crowded_with (net_of plan.net) (map numbered_model ns) (numbered_model c.args.new) (omega (arith, c.if-len-ge256.true)) in
     (tested_on (plan_of plan) (numbered_model c.args.new) (sym c.if-not-is-routed.ensures) ∙ crowded, refl)
 
-pub returns-in-default : goal.returns-in-default
-returns-in-default c =
+pub returns-in_default : goal.returns-in_default
+returns-in_default c =
     let plan = c.args.self.now in
     let ns = vec_items plan.flows in
     let size : c.len.result ≡ length (map numbered_model ns) = c.len.ensures ∙ plan.flows.ok.0 ∙ sym (length-map ns numbered_model) in
-    absurd (sums_told plan c.args.new (sym c.if-not-is-routed.ensures) (omega (arith, c.if-len-ge256.false)) c.in-default.ensures)
+    absurd (sums_told plan c.args.new (sym c.if-not-is-routed.ensures) (omega (arith, c.if-len-ge256.false)) c.in_default.ensures)
 
-pub returns-in-default-with : goal.returns-in-default-with
-returns-in-default-with c =
+pub returns-in_default-with : goal.returns-in_default-with
+returns-in_default-with c =
     let plan = c.args.self.now in
     let ns = vec_items plan.flows in
     let size : c.len.result ≡ length (map numbered_model ns) = c.len.ensures ∙ plan.flows.ok.0 ∙ sym (length-map ns numbered_model) in
-    let none = c.in-default-with.ensures ∙ between_is c.args.new c.as-ref.ensures in
+    let none = c.in_default-with.ensures ∙ between_is c.args.new c.as-ref.ensures in
     absurd (pairs_told plan c.args.new (sym c.if-not-is-routed.ensures) (omega (arith, c.if-len-ge256.false)) none)
 
-pub invariant-of-self-in-Some-judge : goal.invariant-of-self-in-Some-judge
-invariant-of-self-in-Some-judge c =
+pub invariant_of-self-in-Some-judge : goal.invariant_of-self-in-Some-judge
+invariant_of-self-in-Some-judge c =
     let plan = c.args.self.now in
     let back = c.pop.ensures.rest ∙ popped (vec_items plan.flows) (vec_items c.push.new.self) c.args.new _ c.in-Ok.ensures.items c.push.new.self.ok.0 in (
       ap (λ ns. keeps_loads (loads_model plan.loads) (flows_of (map numbered_model ns))) back ∙ plan.loads_kept,
@@ -64,15 +64,15 @@ returns-in-Some-judge c =
     c.as-slice.ensures.value c.in-Ok.ensures.items _ c.in-Some-judge.ensures.value in
     (tested_on (plan_of plan) (numbered_model c.args.new) leading ∙ told, ap (λ xs. record { net = net_of plan.net; flows = map numbered_model xs }) back)
 
-pub invariant-of-self-2 : goal.invariant-of-self-2
-invariant-of-self-2 c =
+pub invariant_of-self-2 : goal.invariant_of-self-2
+invariant_of-self-2 c =
     let plan = c.args.self.now in
     let leading = sym c.if-not-is-routed.ensures in
     let between = c.in-Some-with.ensures ∙ between_is c.args.new c.as-ref.ensures in
     let more = pushed (vec_items plan.flows) (vec_items c.push.new.self) c.args.new c.in-Ok.ensures.items in
     let passed = judged-tested plan c.args.new leading c.in-Some.loads c.in-Some-with.pairs c.in-Some.ensures between
     (vec_items c.push.new.self) c.as-slice.result.now c.as-slice.ensures.value c.in-Ok.ensures.items _
-    c.in-default-judge.ensures.value in (
+    c.in_default-judge.ensures.value in (
       ap (λ gs. keeps_loads (loads_model c.in-Some.loads) (flows_of gs)) more
           ∙ loads_kept _ _ (sums_more plan c.args.new leading c.in-Some.loads c.in-Some.ensures),
       (
@@ -92,5 +92,5 @@ returns c =
     let more = pushed (vec_items plan.flows) (vec_items c.push.new.self) c.args.new c.in-Ok.ensures.items in
     let told = judged-tested plan c.args.new leading c.in-Some.loads c.in-Some-with.pairs c.in-Some.ensures
     (c.in-Some-with.ensures ∙ between_is c.args.new c.as-ref.ensures) (vec_items c.push.new.self) c.as-slice.result.now
-    c.as-slice.ensures.value c.in-Ok.ensures.items _ c.in-default-judge.ensures.value in
+    c.as-slice.ensures.value c.in-Ok.ensures.items _ c.in_default-judge.ensures.value in
     (tested_on (plan_of plan) (numbered_model c.args.new) leading ∙ told, ap (λ gs. record { net = net_of plan.net; flows = gs }) more)

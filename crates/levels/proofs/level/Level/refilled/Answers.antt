@@ -7,7 +7,7 @@ returns-then-ticks-gt-FILLING c =
     let some = mul-le 1 c.args.ticks c.args.self.rate c.args.ticks (omega arith) (omega arith) in
     record { value = omega arith; low = omega arith }
 
-pub overflow-add-self : goal.overflow-add-self
-overflow-add-self c =
+pub overflow_add-self : goal.overflow_add-self
+overflow_add-self c =
     let most = mul-le c.args.self.rate c.args.ticks 1000000 65535000000 (omega arith) (omega arith) in
     omega arith

@@ -6,12 +6,12 @@ use Rattle.promises.specs.Models.{load_model, loads_model}
 use Rattle.promises.proofs.TableLaws.{along_more, along_full}
 use Rattle.promises.proofs.loads.Loads.along.Goals as goal
 
-pub returns-in-default : goal.returns-in-default
-returns-in-default c =
+pub returns-in_default : goal.returns-in_default
+returns-in_default c =
     let f = flow_of c.args.flow.now in
     let ts = loads_model c.loop-port.loads in
     let step = at_drop_more (λ ps. loads_with f ps ts) c.args.road.now c.loop-port.port-index 0 c.loop-port-test.true in
-    along_full f _ _ ts (load_model c.at.result) _ c.at.ensures c.in-default.ensures (sym step ∙ c.loop-port.invariant)
+    along_full f _ _ ts (load_model c.at.result) _ c.at.ensures c.in_default.ensures (sym step ∙ c.loop-port.invariant)
 
 pub loop-port-preserved : goal.loop-port-preserved
 loop-port-preserved c =

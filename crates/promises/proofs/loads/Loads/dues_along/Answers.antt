@@ -6,10 +6,10 @@ use Rattle.promises.specs.Models.{loads_model}
 use Rattle.promises.proofs.DueLaws.{Adds, adds_on, adds_none, adds_end}
 use Rattle.promises.proofs.loads.Loads.dues_along.Goals as goal
 
-pub returns-in-default : goal.returns-in-default
-returns-in-default c =
+pub returns-in_default : goal.returns-in_default
+returns-in_default c =
     adds_none _ _ _ c.loop-i.ticks c.loop-i.i c.loop-i.dues c.args.road.now _ c.loop-i-test.true
-    c.in-default.ensures.value c.loop-i.invariant.2
+    c.in_default.ensures.value c.loop-i.invariant.2
 
 pub loop-i-preserved : goal.loop-i-preserved
 loop-i-preserved c =

@@ -6,13 +6,13 @@ use Rattle.promises.specs.Models.{load_model, pairs_model}
 use Rattle.promises.proofs.PairLaws.{two_more, one_left, pairs-more, pairs-full}
 use Rattle.promises.proofs.pairs.Pairs.along.Goals as goal
 
-pub returns-in-default : goal.returns-in-default
-returns-in-default c =
+pub returns-in_default : goal.returns-in_default
+returns-in_default c =
     let f = flow_of c.args.flow.now in
     let tables = pairs_model c.loop-i.pairs in
     let road = c.args.road.now in
     let split = ap (λ ps. pairs_with f ps tables) (two_more road c.loop-i.i c.loop-i.invariant.0 c.loop-i-test.true) in
-    pairs-full f _ _ _ tables (load_model c.pair.result) _ c.pair.ensures c.in-default.ensures (sym split ∙ c.loop-i.invariant.1)
+    pairs-full f _ _ _ tables (load_model c.pair.result) _ c.pair.ensures c.in_default.ensures (sym split ∙ c.loop-i.invariant.1)
 
 pub loop-i-preserved : goal.loop-i-preserved
 loop-i-preserved c =

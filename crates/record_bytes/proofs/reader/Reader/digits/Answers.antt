@@ -13,22 +13,22 @@ pub loop-i-init : goal.loop-i-init
 unfolding value
 loop-i-init c = (refl, omega arith)
 
-pub overflow-mul-n : goal.overflow-mul-n
-overflow-mul-n c =
+pub overflow_mul-n : goal.overflow_mul-n
+overflow_mul-n c =
     let all = digit_fits c.loop-i.i c.loop-i.n 0 (omega arith) c.loop-i.invariant.1 (omega arith) in
     omega arith
 
-pub overflow-add-n : goal.overflow-add-n
-overflow-add-n c =
+pub overflow_add-n : goal.overflow_add-n
+overflow_add-n c =
     let b = get_or c.args.self.now.rest.now c.loop-i.i 0 in
-    let byte : b < 256 = omega (arith, c.type-inv.rest c.loop-i.i) in
+    let byte : b < 256 = omega (arith, c.type_inv.rest c.loop-i.i) in
     let all = digit_fits c.loop-i.i c.loop-i.n b (omega arith) c.loop-i.invariant.1 byte in
     omega arith
 
 pub loop-i-preserved : goal.loop-i-preserved
 loop-i-preserved c =
     let b = get_or c.args.self.now.rest.now c.loop-i.i 0 in
-    let byte : b < 256 = omega (arith, c.type-inv.rest c.loop-i.i) in (
+    let byte : b < 256 = omega (arith, c.type_inv.rest c.loop-i.i) in (
       value-more c.args.self.now.rest.now c.loop-i.i c.loop-i.n (omega arith) c.loop-i.invariant.0,
       digit_below c.loop-i.i c.loop-i.n b c.loop-i.invariant.1 byte,
     )

@@ -2,10 +2,10 @@ use Rattle.std.proofs.Common.{refl}
 use Rattle.record_bytes.proofs.Taking.{ranged_missing, ranged_inside, ranged_outside}
 use Rattle.record_bytes.proofs.reader.Reader.digits_in.Goals as goal
 
-pub returns-in-default : goal.returns-in-default
-returns-in-default c =
+pub returns-in_default : goal.returns-in_default
+returns-in_default c =
     record {
-      value = rw c.missing.ensures (ranged_missing _ _ _ _ _ c.in-default.ensures.value);
+      value = rw c.missing.ensures (ranged_missing _ _ _ _ _ c.in_default.ensures.value);
       small = tt;
       inside = tt;
       kept = refl;

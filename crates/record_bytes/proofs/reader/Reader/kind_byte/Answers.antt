@@ -4,11 +4,11 @@ use Rattle.record_bytes.specs.Numbers.{kind_byte}
 use Rattle.record_bytes.proofs.Taking.{tested_missing, tested-passed, tested_failed}
 use Rattle.record_bytes.proofs.reader.Reader.kind_byte.Goals as goal
 
-pub returns-in-default : goal.returns-in-default
+pub returns-in_default : goal.returns-in_default
 unfolding kind_byte
-returns-in-default c =
+returns-in_default c =
     record {
-      value = rw c.missing.ensures (tested_missing 1 _ 1 _ _ c.in-default.ensures.value);
+      value = rw c.missing.ensures (tested_missing 1 _ 1 _ _ c.in_default.ensures.value);
       kept = refl;
     }
 
