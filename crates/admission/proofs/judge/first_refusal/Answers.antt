@@ -17,18 +17,18 @@ returns-in-Some c =
     let few = le-ltb 256 (length flows) c.if-flows-gt256.false in
     record { value = rw (length-map flows numbered_model, few, ← c.in-Some.ensures) refl; law = (lowest_law, admission_laws) }
 
-pub returns-in-Some-first-late : goal.returns-in-Some-first-late
-returns-in-Some-first-late c =
+pub returns-in-Some-first_late : goal.returns-in-Some-first_late
+returns-in-Some-first_late c =
     let flows = c.args.flows.now in
     let few = le-ltb 256 (length flows) c.if-flows-gt256.false in
-    record { value = rw (length-map flows numbered_model, few, ← c.in_default.ensures, ← c.in-Some-first-late.ensures) refl; law = (lowest_law, admission_laws) }
+    record { value = rw (length-map flows numbered_model, few, ← c.in_default.ensures, ← c.in-Some-first_late.ensures) refl; law = (lowest_law, admission_laws) }
 
-pub returns-in_default-first-short : goal.returns-in_default-first-short
-returns-in_default-first-short c =
+pub returns-in_default-first_short : goal.returns-in_default-first_short
+returns-in_default-first_short c =
     let flows = c.args.flows.now in
     let few = le-ltb 256 (length flows) c.if-flows-gt256.false in
     record {
-      value = rw (length-map flows numbered_model, few, ← c.in_default.ensures, ← c.in_default-first-late.ensures, ← c.in_default-first-short.ensures) refl;
+      value = rw (length-map flows numbered_model, few, ← c.in_default.ensures, ← c.in_default-first_late.ensures, ← c.in_default-first_short.ensures) refl;
       law = (lowest_law, admission_laws);
     }
 
@@ -37,6 +37,6 @@ returns c =
     let flows = c.args.flows.now in
     let few = le-ltb 256 (length flows) c.if-flows-gt256.false in
     record {
-      value = rw (length-map flows numbered_model, few, ← c.in_default.ensures, ← c.in_default-first-late.ensures, ← c.in-Some-first-short.ensures) refl;
+      value = rw (length-map flows numbered_model, few, ← c.in_default.ensures, ← c.in_default-first_late.ensures, ← c.in-Some-first_short.ensures) refl;
       law = (lowest_law, admission_laws);
     }

@@ -8,31 +8,31 @@ use Rattle.flows.proofs.read_flow.read_parts.Goals as goal
 pub returns-in_err-kind : goal.returns-in_err-kind
 unfolding flow_from
 returns-in_err-kind c =
-    let p = err_from_is_err_and c.from-residual.result c.from-residual.ensures.1 in
+    let p = err_from_is_err_and c.from_residual.result c.from_residual.ensures.1 in
     rw (p.1, p.2, ← c.in_err-kind.ensures.value) refl
 
 pub returns-in_err-class : goal.returns-in_err-class
 unfolding flow_from
 returns-in_err-class c =
-    let p = err_from_is_err_and c.from-residual-in_err-class.result c.from-residual-in_err-class.ensures.1 in
+    let p = err_from_is_err_and c.from_residual-in_err-class.result c.from_residual-in_err-class.ensures.1 in
     rw (p.1, p.2, ← c.in_ok-kind.ensures.value, ← c.in_err-class.ensures.value) refl
 
 pub returns-in_err-longest : goal.returns-in_err-longest
 unfolding flow_from
 returns-in_err-longest c =
-    let p = err_from_is_err_and c.from-residual-in_err-longest.result c.from-residual-in_err-longest.ensures.1 in
+    let p = err_from_is_err_and c.from_residual-in_err-longest.result c.from_residual-in_err-longest.ensures.1 in
     rw (p.1, p.2, ← c.in_ok-kind.ensures.value, ← c.in_ok-class.ensures.value, ← c.in_err-longest.ensures.value) refl
 
 pub returns-in_err-burst : goal.returns-in_err-burst
 unfolding flow_from
 returns-in_err-burst c =
-    let p = err_from_is_err_and c.from-residual-in_err-burst.result c.from-residual-in_err-burst.ensures.1 in
+    let p = err_from_is_err_and c.from_residual-in_err-burst.result c.from_residual-in_err-burst.ensures.1 in
     rw (p.1, p.2, ← c.in_ok-kind.ensures.value, ← c.in_ok-class.ensures.value, ← c.in_ok-longest.ensures.value, ← c.in_err-burst.ensures.value) refl
 
 pub returns-in_err-rate : goal.returns-in_err-rate
 unfolding flow_from
 returns-in_err-rate c =
-    let p = err_from_is_err_and c.from-residual-in_err-rate.result c.from-residual-in_err-rate.ensures.1 in
+    let p = err_from_is_err_and c.from_residual-in_err-rate.result c.from_residual-in_err-rate.ensures.1 in
     rw (p.1, p.2, ← c.in_ok-kind.ensures.value, ← c.in_ok-class.ensures.value, ← c.in_ok-longest.ensures.value, ← c.in_ok-burst.ensures.value, ← c.in_err-rate.ensures.value) refl
 
 pub returns-in_default : goal.returns-in_default
@@ -43,13 +43,13 @@ returns-in_default c =
 pub returns-in_err-hops : goal.returns-in_err-hops
 unfolding flow_from
 returns-in_err-hops c =
-    let p = err_from_is_err_and c.from-residual-in_err-hops.result c.from-residual-in_err-hops.ensures.1 in
+    let p = err_from_is_err_and c.from_residual-in_err-hops.result c.from_residual-in_err-hops.ensures.1 in
     rw (p.1, p.2, ← c.in_ok-kind.ensures.value, ← c.in_ok-class.ensures.value, ← c.in_ok-longest.ensures.value, ← c.in_ok-burst.ensures.value, ← c.in_ok-rate.ensures.value, ← c.in-Some.ensures.value, ← c.in_err-hops.ensures.value) refl
 
 pub returns-in_err-road : goal.returns-in_err-road
 unfolding flow_from
 returns-in_err-road c =
-    let p = err_from_is_err_and c.from-residual-in_err-road.result c.from-residual-in_err-road.ensures.1 in
+    let p = err_from_is_err_and c.from_residual-in_err-road.result c.from_residual-in_err-road.ensures.1 in
     rw (p.1, p.2, ← c.in_ok-kind.ensures.value, ← c.in_ok-class.ensures.value, ← c.in_ok-longest.ensures.value, ← c.in_ok-burst.ensures.value, ← c.in_ok-rate.ensures.value, ← c.in-Some.ensures.value, ← c.in_ok-hops.ensures.value, ← c.in_err-road.ensures) refl
 
 pub returns : goal.returns

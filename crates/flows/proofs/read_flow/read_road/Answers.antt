@@ -5,7 +5,7 @@ use Rattle.flows.proofs.read_flow.read_road.Goals as goal
 
 pub returns-in_err-port : goal.returns-in_err-port
 returns-in_err-port c =
-    let p = err_from_is_err_and c.from-residual.result c.from-residual.ensures.1 in
+    let p = err_from_is_err_and c.from_residual.result c.from_residual.ensures.1 in
     let e : c.loop-i.i - 0 ≡ c.loop-i.i = omega arith in
     rw (p.1, p.2)
     (goes-fault _ _ c.loop-i.i c.loop-i.road _ _ _ _ c.loop-i-test.true (rw e at c.in_err-port.ensures) c.loop-i.invariant.1)

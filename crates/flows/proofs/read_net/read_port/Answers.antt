@@ -15,7 +15,7 @@ returns-in_default-byte c =
 pub returns-in_err-wire : goal.returns-in_err-wire
 unfolding port_from
 returns-in_err-wire c =
-    let p = err_from_is_err_and c.from-residual.result c.from-residual.ensures.1 in
+    let p = err_from_is_err_and c.from_residual.result c.from_residual.ensures.1 in
     rw (p.1, p.2, ← c.in-Some.ensures.value, ← c.in-Some-byte.ensures.value, ← c.in_err-wire.ensures.value) refl
 
 pub returns : goal.returns

@@ -6,7 +6,7 @@ use Rattle.flows.proofs.read_net.read_ports.Goals as goal
 
 pub returns-in_err-port : goal.returns-in_err-port
 returns-in_err-port c =
-    let p = err_from_is_err_and c.from-residual.result c.from-residual.ensures.1 in
+    let p = err_from_is_err_and c.from_residual.result c.from_residual.ensures.1 in
     rw (p.1, p.2)
     (reads_fault _ _ port_from _ _ _ _ _ c.loop-i-test.true c.in_err-port.ensures c.loop-i.invariant.1)
 

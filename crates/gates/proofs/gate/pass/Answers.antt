@@ -15,13 +15,13 @@ returns-then-flow-levels c =
       refused = λ e. (refl, refl, refl);
     }
 
-pub returns-then-not-may-pass : goal.returns-then-not-may-pass
-returns-then-not-may-pass c =
+pub returns-then-not-may_pass : goal.returns-then-not-may_pass
+returns-then-not-may_pass c =
     record {
       answer = λ ls held.
           too_low (size c.args.memory.now) c.args.classes.now c.args.tick c.args.packet c.args.levels.now ls
           c.index-levels-flow.result c.at-level.result (omega arith) (omega arith) c.index-levels-flow.is c.at-level.ensures
-          (sym c.may-pass.ensures.value ∙ c.if-not-may-pass.true);
+          (sym c.may_pass.ensures.value ∙ c.if-not-may_pass.true);
       passed = λ ls held e. absurd (false≢true e);
       refused = λ e. (refl, refl, refl);
     }
@@ -32,7 +32,7 @@ returns c =
       answer = λ ls held.
           enough (size c.args.memory.now) c.args.classes.now c.args.tick c.args.packet c.args.levels.now ls
           c.index-levels-flow.result c.at-level.result (omega arith) (omega arith) c.index-levels-flow.is c.at-level.ensures _
-          (sym c.may-pass.ensures.value ∙ c.if-not-may-pass.false) (sym c.if-not-put.false ∙ c.put.ensures.answer ls held);
+          (sym c.may_pass.ensures.value ∙ c.if-not-may_pass.false) (sym c.if-not-put.false ∙ c.put.ensures.answer ls held);
       passed = λ ls held e. (
         is_spent (size c.args.memory.now) c.args.classes.now c.args.tick c.args.packet c.args.levels.now ls
             c.index-levels-flow.result c.at-level.result (omega arith) (omega arith) c.index-levels-flow.is c.at-level.ensures

@@ -11,9 +11,9 @@ pub loop-rest-preserved : goal.loop-rest-preserved
 loop-rest-preserved c ls fits held =
     let sofar = c.loop-rest.invariant ls fits held in
     let same : size c.loop-rest.memory ≡ size c.args.memory.now = omega arith in
-    ends_on (size c.args.memory.now) (size c.loop-rest.memory) c.args.at-edge c.args.classes.now c.args.tick
+    ends_on (size c.args.memory.now) (size c.loop-rest.memory) c.args.at_edge c.args.classes.now c.args.tick
     c.args.waiting.now c.loop-rest.left c.loop-rest.levels sofar.present _ same sofar.ends
-    c.in-Some.rest c.pass-first.new.levels c.pass-first.new.queues c.pass-first.new.memory
+    c.in-Some.rest c.pass_first.new.levels c.pass_first.new.queues c.pass_first.new.memory
     (c.in-Some.ensures.step sofar.present sofar.fits sofar.held)
 
 pub returns : goal.returns
@@ -22,9 +22,9 @@ returns c =
       opens = λ ls fits held.
           let sofar = c.loop-rest.invariant ls fits held in
           let same : size c.loop-rest.memory ≡ size c.args.memory.now = omega arith in
-          opens-on (size c.args.memory.now) (size c.loop-rest.memory) c.args.at-edge c.args.classes.now c.args.tick
+          opens-on (size c.args.memory.now) (size c.loop-rest.memory) c.args.at_edge c.args.classes.now c.args.tick
           c.args.waiting.now c.loop-rest.left c.loop-rest.levels sofar.present _ same sofar.ends
-          c.loop-rest.left c.pass-first.new.levels c.pass-first.new.queues c.pass-first.new.memory
+          c.loop-rest.left c.pass_first.new.levels c.pass_first.new.queues c.pass_first.new.memory
           (c.in_default.ensures.step sofar.present sofar.fits sofar.held);
       laws = gate_laws;
     }

@@ -10,8 +10,8 @@ use Rattle.gates.proofs.gate.pass_all.Given as goal
 abbrev pub invariant-loop-rest : goal.invariant-loop-rest
 invariant-loop-rest l =
     (ls : List (List Packet)) → Fits l.waiting l.initial.left → Holds l.initial.queues l.initial.memory ls →
-    Ends (size l.initial.memory) l.at-edge l.classes l.tick l.waiting l.left l.levels l.queues l.memory
-    (opened (size l.initial.memory) l.at-edge l.classes l.tick (waits l.waiting l.initial.left) (map level_model l.initial.levels) ls)
+    Ends (size l.initial.memory) l.at_edge l.classes l.tick l.waiting l.left l.levels l.queues l.memory
+    (opened (size l.initial.memory) l.at_edge l.classes l.tick (waits l.waiting l.initial.left) (map level_model l.initial.levels) ls)
 
 abbrev pub decreases-loop-rest : goal.decreases-loop-rest
 decreases-loop-rest l = l.left.count

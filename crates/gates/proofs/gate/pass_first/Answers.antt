@@ -10,7 +10,7 @@ returns-in_default c =
     record {
       shorter = tt;
       step = λ ls fits held.
-          opens_none (size c.args.memory.now) c.args.at-edge c.args.classes.now c.args.tick
+          opens_none (size c.args.memory.now) c.args.at_edge c.args.classes.now c.args.tick
           c.args.waiting.now c.args.gate c.args.levels.now c.args.queues.now c.args.memory.now ls fits held
           (sym c.in_default.is ∙ c.first.ensures.means fits);
     }
@@ -20,7 +20,7 @@ returns-then-not-pass c =
     record {
       shorter = tt;
       step = λ ls fits held.
-          opens_refused (size c.args.memory.now) c.args.at-edge c.args.classes.now c.args.tick
+          opens_refused (size c.args.memory.now) c.args.at_edge c.args.classes.now c.args.tick
           c.args.waiting.now c.args.gate c.args.levels.now c.args.queues.now c.args.memory.now ls fits held
           c.in-Some.first c.pass.new.levels c.pass.new.queues c.pass.new.memory
           (sym c.in-Some.is ∙ c.first.ensures.means fits) (sym c.if-not-pass.true ∙ c.pass.ensures.answer ls held)
@@ -30,14 +30,14 @@ returns-then-not-pass c =
 pub returns : goal.returns
 returns c =
     record {
-      shorter = drop_less c.args.waiting.now c.args.gate c.in-Some-drop-first.rest c.in-Some-drop-first.ensures.line;
+      shorter = drop_less c.args.waiting.now c.args.gate c.in-Some-drop_first.rest c.in-Some-drop_first.ensures.line;
       step = λ ls fits held.
           let may : true ≡ may_go (size c.args.memory.now) c.args.classes.now c.args.tick c.in-Some.first (map level_model c.args.levels.now) ls =
           sym c.if-not-pass.false ∙ c.pass.ensures.answer ls held in
           let passed = c.pass.ensures.passed ls held c.if-not-pass.false in
-          ends-rest (size c.args.memory.now) c.args.at-edge c.args.classes.now c.args.tick
+          ends-rest (size c.args.memory.now) c.args.at_edge c.args.classes.now c.args.tick
           c.args.waiting.now c.args.gate c.args.levels.now c.args.queues.now c.args.memory.now ls fits held
-          c.in-Some.first c.in-Some-drop-first.rest c.pass.new.levels c.pass.new.queues c.pass.new.memory
-          (sym c.in-Some.is ∙ c.first.ensures.means fits) (c.in-Some-drop-first.ensures.means fits)
+          c.in-Some.first c.in-Some-drop_first.rest c.pass.new.levels c.pass.new.queues c.pass.new.memory
+          (sym c.in-Some.is ∙ c.first.ensures.means fits) (c.in-Some-drop_first.ensures.means fits)
           may passed.0 passed.1;
     }

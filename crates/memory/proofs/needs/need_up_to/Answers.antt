@@ -11,8 +11,8 @@ loop-q-init c = (refl, omega arith)
 pub loop-q-preserved : goal.loop-q-preserved
 unfolding switch_needs
 loop-q-preserved c =
-    let small = c.need-on-need.ensures.small in (
-      ap₂ (λ x y. x + y) c.loop-q.invariant.0 c.need-on-need.ensures.value
+    let small = c.need_on-need.ensures.small in (
+      ap₂ (λ x y. x + y) c.loop-q.invariant.0 c.need_on-need.ensures.value
           ∙ sym (ap (switch_needs (net_of c.args.net.now) (loads_model c.args.loads.now) (pairs_model c.args.pairs.now) c.args.switch) (add-one c.loop-q.q)),
       omega arith,
     )

@@ -10,8 +10,8 @@ loop-class-init c = (refl, omega arith)
 pub loop-class-preserved : goal.loop-class-preserved
 unfolding class_needs
 loop-class-preserved c =
-    let small = c.class-need-need.ensures.small in (
-      ap₂ (λ x y. x + y) c.loop-class.invariant.0 c.class-need-need.ensures.value
+    let small = c.class_need-need.ensures.small in (
+      ap₂ (λ x y. x + y) c.loop-class.invariant.0 c.class_need-need.ensures.value
           ∙ sym (ap (class_needs (load_model c.args.port.now) (load_model c.args.pair.now)) (add-one c.loop-class.class)),
       omega arith,
     )

@@ -10,8 +10,8 @@ loop-p-init c = (refl, omega arith)
 pub loop-p-preserved : goal.loop-p-preserved
 unfolding regulator_needs
 loop-p-preserved c =
-    let small = c.pair-need-need.ensures.small in (
-      ap₂ (λ x y. x + y) c.loop-p.invariant.0 (c.pair-need-need.ensures.value ∙ ap₂ (λ x y. class_needs x y 8) c.at.ensures c.pair.ensures)
+    let small = c.pair_need-need.ensures.small in (
+      ap₂ (λ x y. x + y) c.loop-p.invariant.0 (c.pair_need-need.ensures.value ∙ ap₂ (λ x y. class_needs x y 8) c.at.ensures c.pair.ensures)
           ∙ sym (ap (regulator_needs (loads_model c.args.loads.now) (pairs_model c.args.pairs.now) c.args.q) (add-one c.loop-p.p)),
       omega arith,
     )

@@ -13,8 +13,8 @@ loop-i-preserved c =
     let i = c.loop-i.i in
     let separator = cond (eqb i 0) (codes ":") (codes ",") in
     let step = at_drop_more (λ ps. text ++ ports_text separator ps (drop i ticks)) road i 0 c.loop-i-test.true in
-    let next = print_port text (string_bytes c.add-port.new.text) _ separator (get_or road i 0) (get_or ticks i 0) (drop (i + 1) road) (drop i ticks)
-    (sym (get_or-drop i ticks 0 0 ∙ ap (λ k. get_or ticks k 0) (add-zero i))) c.in_ok-add-port.ensures (sym step ∙ c.loop-i.invariant) in
+    let next = print_port text (string_bytes c.add_port.new.text) _ separator (get_or road i 0) (get_or ticks i 0) (drop (i + 1) road) (drop i ticks)
+    (sym (get_or-drop i ticks 0 0 ∙ ap (λ k. get_or ticks k 0) (add-zero i))) c.in_ok-add_port.ensures (sym step ∙ c.loop-i.invariant) in
     rw (ne_eqb (i + 1) 0 (λ e. omega arith), ← (drop-drop 1 i ticks)) next
 
 pub returns : goal.returns

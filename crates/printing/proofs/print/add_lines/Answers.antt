@@ -10,7 +10,7 @@ pub loop-line-preserved : goal.loop-line-preserved
 loop-line-preserved c =
     let text = string_bytes c.loop-line.text in
     let step = at_drop_more (λ ls. text ++ printed_all (plan_of c.args.plan.now) ls) c.args.lines.now c.loop-line.line-index Silent c.loop-line-test.true in
-    print_line (plan_of c.args.plan.now) text _ _ _ _ c.in_ok-add-line.ensures (sym step ∙ c.loop-line.invariant)
+    print_line (plan_of c.args.plan.now) text _ _ _ _ c.in_ok-add_line.ensures (sym step ∙ c.loop-line.invariant)
 
 pub returns : goal.returns
 unfolding printed_all

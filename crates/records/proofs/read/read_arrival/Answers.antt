@@ -16,7 +16,7 @@ ports-few net = rw (length-take net.count net.ports) (below net.count (length ne
 pub returns-in_err-packet : goal.returns-in_err-packet
 unfolding arrival_from
 returns-in_err-packet c =
-    let p = err_from_is_err_and c.from-residual.result c.from-residual.ensures.1 in
+    let p = err_from_is_err_and c.from_residual.result c.from_residual.ensures.1 in
     record {
       value = rw (p.1, p.2, ← c.new-reader.ensures, ← c.in_err-packet.ensures) refl;
       format = arrival_format _ (ports-few c.args.net.now);
@@ -25,7 +25,7 @@ returns-in_err-packet c =
 pub returns-in_err-port : goal.returns-in_err-port
 unfolding arrival_from
 returns-in_err-port c =
-    let p = err_from_is_err_and c.from-residual-in_err-port.result c.from-residual-in_err-port.ensures.1 in
+    let p = err_from_is_err_and c.from_residual-in_err-port.result c.from_residual-in_err-port.ensures.1 in
     record {
       value = rw (p.1, p.2, ← c.new-reader.ensures, ← c.in_ok-packet.ensures, ← c.in_err-port.ensures) refl;
       format = arrival_format _ (ports-few c.args.net.now);

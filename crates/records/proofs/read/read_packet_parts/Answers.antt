@@ -6,7 +6,7 @@ use Rattle.records.proofs.read.read_packet_parts.Goals as goal
 pub returns-in_err-kind : goal.returns-in_err-kind
 unfolding packet_from
 returns-in_err-kind c =
-    let p = err_from_is_err_and c.from-residual.result c.from-residual.ensures.1 in
+    let p = err_from_is_err_and c.from_residual.result c.from_residual.ensures.1 in
     rw (p.1, p.2, ← c.in_err-kind.ensures.value) refl
 
 pub returns-in_default : goal.returns-in_default

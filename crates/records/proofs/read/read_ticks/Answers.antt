@@ -7,7 +7,7 @@ use Rattle.records.proofs.read.read_ticks.Goals as goal
 pub returns-in_err-kind : goal.returns-in_err-kind
 unfolding ticks_from
 returns-in_err-kind c =
-    let p = err_from_is_err_and c.from-residual.result c.from-residual.ensures.1 in
+    let p = err_from_is_err_and c.from_residual.result c.from_residual.ensures.1 in
     record {
       value = rw (p.1, p.2, ← c.new-reader.ensures, ← c.in_err-kind.ensures.value) refl;
       format = ticks_format;

@@ -6,7 +6,7 @@ use Rattle.writing.proofs.plans.put_memories.Goals as goal
 
 pub loop-ticks-preserved : goal.loop-ticks-preserved
 loop-ticks-preserved c =
-    rw (take_more c.args.memories.now c.loop-ticks.ticks-index 0 c.loop-ticks-test.true, c.in_ok-put-word.ensures, c.loop-ticks.invariant)
+    rw (take_more c.args.memories.now c.loop-ticks.ticks-index 0 c.loop-ticks-test.true, c.in_ok-put_word.ensures, c.loop-ticks.invariant)
     (flat_map_more (bytes_of 4) (vec_items c.args.out.now) _ _)
 
 pub returns : goal.returns

@@ -7,7 +7,7 @@ use Rattle.writing.proofs.plans.put_ports.Goals as goal
 
 pub loop-port-preserved : goal.loop-port-preserved
 loop-port-preserved c =
-    rw (take_more c.args.ports.now c.loop-port.port-index no_port c.loop-port-test.true, c.in_ok-put-port.ensures, c.loop-port.invariant)
+    rw (take_more c.args.ports.now c.loop-port.port-index no_port c.loop-port-test.true, c.in_ok-put_port.ensures, c.loop-port.invariant)
     (flat_map_more port_bytes (vec_items c.args.out.now) _ _)
 
 pub returns : goal.returns

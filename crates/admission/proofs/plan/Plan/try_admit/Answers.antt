@@ -23,22 +23,22 @@ returns-then-len-ge256 c =
     let ns = vec_items plan.flows in
     let size : c.len.result ≡ length (map numbered_model ns) = c.len.ensures ∙ plan.flows.ok.0 ∙ sym (length-map ns numbered_model) in
     let crowded = crowded_with (net_of plan.net) (map numbered_model ns) (numbered_model c.args.new) (omega (arith, c.if-len-ge256.true)) in
-    (tested_on (plan_of plan) (numbered_model c.args.new) (sym c.if-not-is-routed.ensures) ∙ crowded, refl)
+    (tested_on (plan_of plan) (numbered_model c.args.new) (sym c.if-not-is_routed.ensures) ∙ crowded, refl)
 
 pub returns-in_default : goal.returns-in_default
 returns-in_default c =
     let plan = c.args.self.now in
     let ns = vec_items plan.flows in
     let size : c.len.result ≡ length (map numbered_model ns) = c.len.ensures ∙ plan.flows.ok.0 ∙ sym (length-map ns numbered_model) in
-    absurd (sums_told plan c.args.new (sym c.if-not-is-routed.ensures) (omega (arith, c.if-len-ge256.false)) c.in_default.ensures)
+    absurd (sums_told plan c.args.new (sym c.if-not-is_routed.ensures) (omega (arith, c.if-len-ge256.false)) c.in_default.ensures)
 
 pub returns-in_default-with : goal.returns-in_default-with
 returns-in_default-with c =
     let plan = c.args.self.now in
     let ns = vec_items plan.flows in
     let size : c.len.result ≡ length (map numbered_model ns) = c.len.ensures ∙ plan.flows.ok.0 ∙ sym (length-map ns numbered_model) in
-    let none = c.in_default-with.ensures ∙ between_is c.args.new c.as-ref.ensures in
-    absurd (pairs_told plan c.args.new (sym c.if-not-is-routed.ensures) (omega (arith, c.if-len-ge256.false)) none)
+    let none = c.in_default-with.ensures ∙ between_is c.args.new c.as_ref.ensures in
+    absurd (pairs_told plan c.args.new (sym c.if-not-is_routed.ensures) (omega (arith, c.if-len-ge256.false)) none)
 
 pub invariant_of-self-in-Some-judge : goal.invariant_of-self-in-Some-judge
 invariant_of-self-in-Some-judge c =
@@ -57,21 +57,21 @@ invariant_of-self-in-Some-judge c =
 pub returns-in-Some-judge : goal.returns-in-Some-judge
 returns-in-Some-judge c =
     let plan = c.args.self.now in
-    let leading = sym c.if-not-is-routed.ensures in
+    let leading = sym c.if-not-is_routed.ensures in
     let back = c.pop.ensures.rest ∙ popped (vec_items plan.flows) (vec_items c.push.new.self) c.args.new _ c.in-Ok.ensures.items c.push.new.self.ok.0 in
     let told = judged-tested plan c.args.new leading c.in-Some.loads c.in-Some-with.pairs c.in-Some.ensures
-    (c.in-Some-with.ensures ∙ between_is c.args.new c.as-ref.ensures) (vec_items c.push.new.self) c.as-slice.result.now
-    c.as-slice.ensures.value c.in-Ok.ensures.items _ c.in-Some-judge.ensures.value in
+    (c.in-Some-with.ensures ∙ between_is c.args.new c.as_ref.ensures) (vec_items c.push.new.self) c.as_slice.result.now
+    c.as_slice.ensures.value c.in-Ok.ensures.items _ c.in-Some-judge.ensures.value in
     (tested_on (plan_of plan) (numbered_model c.args.new) leading ∙ told, ap (λ xs. record { net = net_of plan.net; flows = map numbered_model xs }) back)
 
 pub invariant_of-self-2 : goal.invariant_of-self-2
 invariant_of-self-2 c =
     let plan = c.args.self.now in
-    let leading = sym c.if-not-is-routed.ensures in
-    let between = c.in-Some-with.ensures ∙ between_is c.args.new c.as-ref.ensures in
+    let leading = sym c.if-not-is_routed.ensures in
+    let between = c.in-Some-with.ensures ∙ between_is c.args.new c.as_ref.ensures in
     let more = pushed (vec_items plan.flows) (vec_items c.push.new.self) c.args.new c.in-Ok.ensures.items in
     let passed = judged-tested plan c.args.new leading c.in-Some.loads c.in-Some-with.pairs c.in-Some.ensures between
-    (vec_items c.push.new.self) c.as-slice.result.now c.as-slice.ensures.value c.in-Ok.ensures.items _
+    (vec_items c.push.new.self) c.as_slice.result.now c.as_slice.ensures.value c.in-Ok.ensures.items _
     c.in_default-judge.ensures.value in (
       ap (λ gs. keeps_loads (loads_model c.in-Some.loads) (flows_of gs)) more
           ∙ loads_kept _ _ (sums_more plan c.args.new leading c.in-Some.loads c.in-Some.ensures),
@@ -88,9 +88,9 @@ invariant_of-self-2 c =
 pub returns : goal.returns
 returns c =
     let plan = c.args.self.now in
-    let leading = sym c.if-not-is-routed.ensures in
+    let leading = sym c.if-not-is_routed.ensures in
     let more = pushed (vec_items plan.flows) (vec_items c.push.new.self) c.args.new c.in-Ok.ensures.items in
     let told = judged-tested plan c.args.new leading c.in-Some.loads c.in-Some-with.pairs c.in-Some.ensures
-    (c.in-Some-with.ensures ∙ between_is c.args.new c.as-ref.ensures) (vec_items c.push.new.self) c.as-slice.result.now
-    c.as-slice.ensures.value c.in-Ok.ensures.items _ c.in_default-judge.ensures.value in
+    (c.in-Some-with.ensures ∙ between_is c.args.new c.as_ref.ensures) (vec_items c.push.new.self) c.as_slice.result.now
+    c.as_slice.ensures.value c.in-Ok.ensures.items _ c.in_default-judge.ensures.value in
     (tested_on (plan_of plan) (numbered_model c.args.new) leading ∙ told, ap (λ gs. record { net = net_of plan.net; flows = gs }) more)

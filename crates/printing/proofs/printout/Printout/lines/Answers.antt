@@ -13,7 +13,7 @@ returns-then-len-ge-PART c =
       text = λ more.
           print_next (plan_of c.loop-piece.self.plan) (string_bytes c.loop-piece.text) _ _ (standing c.loop-piece.self.session)
           (c.in_ok-line.line, standing c.take.new.self) _ _ _
-          c.in-Some.ensures.value c.in_ok-line.ensures.value c.in_ok-add-line.ensures c.loop-piece.invariant.0;
+          c.in-Some.ensures.value c.in_ok-line.ensures.value c.in_ok-add_line.ensures c.loop-piece.invariant.0;
       last = λ e. let z : ◌≡◌ {A = ℕ} 0 1 = cc in absurd (omega arith);
       fewer = λ more. omega (arith, less, c.loop-piece.invariant.1);
     }
@@ -26,7 +26,7 @@ loop-piece-preserved c =
     let less = next-shorter c.loop-piece.self.records.rest.now _ _ (sym c.in-Some.ensures.value) in (
       print_next (plan_of c.loop-piece.self.plan) (string_bytes c.loop-piece.text) _ _ (standing c.loop-piece.self.session)
           (c.in_ok-line.line, standing c.take.new.self) _ _ _
-          c.in-Some.ensures.value c.in_ok-line.ensures.value c.in_ok-add-line.ensures c.loop-piece.invariant.0,
+          c.in-Some.ensures.value c.in_ok-line.ensures.value c.in_ok-add_line.ensures c.loop-piece.invariant.0,
       omega (arith, less, c.loop-piece.invariant.1),
     )
 
@@ -35,6 +35,6 @@ returns c = record {
   text = λ e. let z : ◌≡◌ {A = ℕ} 0 1 = cc in absurd (omega arith);
   last = λ more.
       print_end (plan_of c.loop-piece.self.plan) (string_bytes c.loop-piece.text) _ _ (standing c.loop-piece.self.session) _ c.in_default.ensures.value
-      (c.in_ok-add-lines.ensures ∙ ap (λ ls. string_bytes c.loop-piece.text ++ printed_all (plan_of c.loop-piece.self.plan) ls) c.closing.ensures) c.loop-piece.invariant.0;
+      (c.in_ok-add_lines.ensures ∙ ap (λ ls. string_bytes c.loop-piece.text ++ printed_all (plan_of c.loop-piece.self.plan) ls) c.closing.ensures) c.loop-piece.invariant.0;
   fewer = λ e. let z : ◌≡◌ {A = ℕ} 0 1 = cc in absurd (omega arith);
 }

@@ -5,6 +5,6 @@ use Rattle.queues.proofs.queues_of.Queues.empty.Goals as goal
 
 pub returns : goal.returns
 returns c =
-    let cells = c.link-all-count.new.cells in
-    subst (λ q. Holds q cells (replicate 8 [])) (sym c.of-free.ensures)
-    (unused_holds cells c.link-all-count.result c.link-all-count.ensures.counted c.link-all-count.ensures.linked)
+    let cells = c.link_all-count.new.cells in
+    subst (λ q. Holds q cells (replicate 8 [])) (sym c.of_free.ensures)
+    (unused_holds cells c.link_all-count.result c.link_all-count.ensures.counted c.link_all-count.ensures.linked)

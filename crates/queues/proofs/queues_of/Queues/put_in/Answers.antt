@@ -6,7 +6,7 @@ use Rattle.queues.specs.Lines.{put_in}
 use Rattle.queues.specs.Held.{Holds}
 use Rattle.queues.proofs.PutLaws.{no_cell_lem, may_put, free_is_cell, count_fits, ticks-few, put_first, put_last, ended, begun}
 use Rattle.queues.proofs.queues_of.Queues.put_in.Goals as goal
-use Rattle.queues.proofs.queues_of.Queues.put_in.Goals.{then-count-eq0, else-count-eq0, then-place-cells-via-then-place-cells, then-place-cells-via-else-place-cells+then-count, then-place-cells-via-else-place-cells+else-count+then-ticks-gt-MOST-TICKS}
+use Rattle.queues.proofs.queues_of.Queues.put_in.Goals.{then-count-eq0, else-count-eq0, then-place-cells-via-then-place-cells, then-place-cells-via-else-place-cells+then-count, then-place-cells-via-else-place-cells+else-count+then-ticks-gt-MOST_TICKS}
 
 pub returns-then-self-eq0 : goal.returns-then-self-eq0
 returns-then-self-eq0 c =
@@ -27,7 +27,7 @@ returns-then-place-cells c =
           absurd (elim c.then-place-cells.branch [
             | then-place-cells-via-then-place-cells w ↦ omega (arith, w.if-place-cells.true, free_is_cell q cells lines held c.args.class class some)
             | then-place-cells-via-else-place-cells+then-count w ↦ omega (arith, w.if-count.true, count_fits q cells lines held c.args.class class some)
-            | then-place-cells-via-else-place-cells+else-count+then-ticks-gt-MOST-TICKS w ↦ omega (arith, w.if-ticks-gt-MOST-TICKS.true, ticks-few q cells lines held c.args.class class)
+            | then-place-cells-via-else-place-cells+else-count+then-ticks-gt-MOST_TICKS w ↦ omega (arith, w.if-ticks-gt-MOST_TICKS.true, ticks-few q cells lines held c.args.class class)
           ]);
       entered = λ lines held e. absurd (false≢true e);
       refused = λ e. (refl, refl);

@@ -8,7 +8,7 @@ unfolding sum_to
 loop-class-init c = refl
 
 pub loop-class-preserved : goal.loop-class-preserved
-loop-class-preserved c = more-ticks (λ d. get_or c.args.self.now.ticks d 0) c.loop-class.class c.loop-class.ticks _ c.loop-class.invariant c.saturating-add-ticks.ensures
+loop-class-preserved c = more-ticks (λ d. get_or c.args.self.now.ticks d 0) c.loop-class.class c.loop-class.ticks _ c.loop-class.invariant c.saturating_add-ticks.ensures
 
 pub returns : goal.returns
 returns c cells lines held =
