@@ -61,28 +61,19 @@ pub invariant_of-result : goal.invariant_of-result
 invariant_of-result c =
     let net = c.args.net.now in
     let few : length (take net.count net.ports) ≤ 64 = rw (length-take net.count net.ports) (below net.count _ net.ports_few) in
-    let places = road-places _ c.in_ok-hops.hops c.in_ok-road.road _ _ few c.in_ok-road.ensures in (
-      c.in_ok-class.ensures.inside.1,
-      (
-        c.in_ok-longest.ensures.inside.0,
-        (
-          c.in_ok-burst.ensures.inside.0,
-          (
-            c.in_ok-rate.ensures.inside.0,
-            (
-              c.in_ok-rate.ensures.inside.1,
-              (
-                c.in_ok-hops.ensures.inside.0,
-                (
-                  c.in_ok-hops.ensures.inside.1,
-                  (places.0, (places.1, (c.in_ok-burst.ensures.inside.1, tt))),
-                ),
-              ),
-            ),
-          ),
-        ),
-      ),
-    )
+    let places = road-places _ c.in_ok-hops.hops c.in_ok-road.road _ _ few c.in_ok-road.ensures in
+    record {
+      class_low = c.in_ok-class.ensures.inside.1;
+      longest_some = c.in_ok-longest.ensures.inside.0;
+      burst_holds = c.in_ok-burst.ensures.inside.0;
+      rate_some = c.in_ok-rate.ensures.inside.0;
+      rate_whole = c.in_ok-rate.ensures.inside.1;
+      hops_some = c.in_ok-hops.ensures.inside.0;
+      hops_few = c.in_ok-hops.ensures.inside.1;
+      ports_listed = places.0;
+      ports_known = places.1;
+      burst_short = c.in_ok-burst.ensures.inside.1;
+    }
   where
     below : (m n : ℕ) → m ≤ 64 → min m n ≤ 64
     below m n h = omega arith

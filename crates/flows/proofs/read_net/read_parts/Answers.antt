@@ -63,7 +63,14 @@ invariant_of-result c =
     let sound = net_sound c.args.least net (cursor c.args.reader.now) (cursor c.read_memories.new.reader) is in
     let ports-size = (several_all (λ _. Unit {0}) port_from (λ v d e is. tt) _ _ _ _ (sym c.in_ok-ports.ensures)).0 in
     let memory-size = (several_all (λ _. Unit {0}) (ranged 4 0 1048576) (λ v d e is. tt) _ _ _ _ (sym c.in_ok-memory.ensures)).0 in
-    places_sound ports c.in_ok-count.count memory c.in_ok-switches.switches ports-size memory-size sound.0
+    let holds = places_sound ports c.in_ok-count.count memory c.in_ok-switches.switches ports-size memory-size sound.0 in
+    record {
+      ports_few = holds.0;
+      ports_listed = holds.1.0;
+      memory_listed = holds.1.1.0;
+      each_port = holds.1.1.1.0;
+      each_memory = holds.1.1.1.1.0;
+    }
 
 pub returns : goal.returns
 unfolding net_from
