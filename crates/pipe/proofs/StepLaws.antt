@@ -58,8 +58,8 @@ module _ (fs : List FlowModel) (s : PipeModel) (kept : Kept fs s) where
         late = kept.late;
         then = kept.then;
         sized = kept.sized;
-        sized_next = kept.sized-next;
-        sized_then = kept.sized-then;
+        sized_next = kept.sized_next;
+        sized_then = kept.sized_then;
         chain = kept.chain;
         behind = kept.behind;
         past = λ k. omega (arith, kept.past k);
@@ -96,8 +96,8 @@ module _ (fs : List FlowModel) (s : PipeModel) (kept : Kept fs s) where
         late = kept.late;
         then = kept.then;
         sized = kept.sized;
-        sized_next = kept.sized-next;
-        sized_then = kept.sized-then;
+        sized_next = kept.sized_next;
+        sized_then = kept.sized_then;
         chain = chain-comes fs kept.then front s.levels s.now w back (subst (λ ws. Chain fs kept.then ws s.levels) may.stands kept.chain);
         behind = kept.behind;
         past = kept.past;
@@ -116,8 +116,8 @@ module _ (fs : List FlowModel) (s : PipeModel) (kept : Kept fs s) where
         late = kept.late;
         then = kept.then;
         sized = length-set s.levels k (level_with fs s.levels s.now k len) ∙ kept.sized;
-        sized_next = kept.sized-next;
-        sized_then = kept.sized-then;
+        sized_next = kept.sized_next;
+        sized_then = kept.sized_then;
         chain =
             chain_push fs kept.then s.pipe s.levels
             (entrant fs s k len) kept.chain
@@ -172,10 +172,10 @@ module _ (fs : List FlowModel) (s : PipeModel) (kept : Kept fs s) where
         ]
 
     in_next : w.flow < length s.next
-    in_next = omega (arith, chain.0.known, kept.sized-next)
+    in_next = omega (arith, chain.0.known, kept.sized_next)
 
     in_then : w.flow < length kept.then
-    in_then = omega (arith, chain.0.known, kept.sized-then)
+    in_then = omega (arith, chain.0.known, kept.sized_then)
 
     same_behind : Behind (flow_at fs w.flow) latest.0 level (carried w)
     same_behind =
@@ -191,8 +191,8 @@ module _ (fs : List FlowModel) (s : PipeModel) (kept : Kept fs s) where
           late = latest.0;
           then = set kept.then w.flow (carried w);
           sized = kept.sized;
-          sized_next = length-set s.next w.flow level ∙ kept.sized-next;
-          sized_then = length-set kept.then w.flow (carried w) ∙ kept.sized-then;
+          sized_next = length-set s.next w.flow level ∙ kept.sized_next;
+          sized_then = length-set kept.then w.flow (carried w) ∙ kept.sized_then;
           chain = chain.1;
           behind = λ k. elim (cases_eq k w.flow) [
             | inl same ↦

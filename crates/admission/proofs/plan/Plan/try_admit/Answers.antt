@@ -43,16 +43,13 @@ returns-in_default-with c =
 pub invariant_of-self-in-Some-judge : goal.invariant_of-self-in-Some-judge
 invariant_of-self-in-Some-judge c =
     let plan = c.args.self.now in
-    let back = c.pop.ensures.rest ∙ popped (vec_items plan.flows) (vec_items c.push.new.self) c.args.new _ c.in-Ok.ensures.items c.push.new.self.ok.0 in (
-      ap (λ ns. keeps_loads (loads_model plan.loads) (flows_of (map numbered_model ns))) back ∙ plan.loads_kept,
-      (
-        ap (λ ns. keeps_pairs (pairs_model (box_value plan.pairs)) (flows_of (map numbered_model ns))) back ∙ plan.pairs_kept,
-        (
-          ap (λ ns. all_roads (net_of plan.net) (flows_of (map numbered_model ns))) back ∙ plan.on_roads,
-          (ap (λ ns. passes_all (net_of plan.net) (map numbered_model ns)) back ∙ plan.fits, tt),
-        ),
-      ),
-    )
+    let back = c.pop.ensures.rest ∙ popped (vec_items plan.flows) (vec_items c.push.new.self) c.args.new _ c.in-Ok.ensures.items c.push.new.self.ok.0 in
+    record {
+      loads_kept = ap (λ ns. keeps_loads (loads_model plan.loads) (flows_of (map numbered_model ns))) back ∙ plan.loads_kept;
+      pairs_kept = ap (λ ns. keeps_pairs (pairs_model (box_value plan.pairs)) (flows_of (map numbered_model ns))) back ∙ plan.pairs_kept;
+      on_roads = ap (λ ns. all_roads (net_of plan.net) (flows_of (map numbered_model ns))) back ∙ plan.on_roads;
+      fits = ap (λ ns. passes_all (net_of plan.net) (map numbered_model ns)) back ∙ plan.fits;
+    }
 
 pub returns-in-Some-judge : goal.returns-in-Some-judge
 returns-in-Some-judge c =
@@ -72,18 +69,15 @@ invariant_of-self-2 c =
     let more = pushed (vec_items plan.flows) (vec_items c.push.new.self) c.args.new c.in-Ok.ensures.items in
     let passed = judged-tested plan c.args.new leading c.in-Some.loads c.in-Some-with.pairs c.in-Some.ensures between
     (vec_items c.push.new.self) c.as_slice.result.now c.as_slice.ensures.value c.in-Ok.ensures.items _
-    c.in_default-judge.ensures.value in (
-      ap (λ gs. keeps_loads (loads_model c.in-Some.loads) (flows_of gs)) more
-          ∙ loads_kept _ _ (sums_more plan c.args.new leading c.in-Some.loads c.in-Some.ensures),
-      (
-        ap (λ gs. keeps_pairs (pairs_model c.in-Some-with.pairs) (flows_of gs)) more
-            ∙ pairs-kept _ _ (pairs-more plan c.args.new leading c.in-Some-with.pairs between),
-        (
-          ap (λ gs. all_roads (net_of plan.net) (flows_of gs)) more ∙ roads_more plan c.args.new leading,
-          (ap (passes_all (net_of plan.net)) more ∙ ap is_none passed, tt),
-        ),
-      ),
-    )
+    c.in_default-judge.ensures.value in
+    record {
+      loads_kept = ap (λ gs. keeps_loads (loads_model c.in-Some.loads) (flows_of gs)) more
+          ∙ loads_kept _ _ (sums_more plan c.args.new leading c.in-Some.loads c.in-Some.ensures);
+      pairs_kept = ap (λ gs. keeps_pairs (pairs_model c.in-Some-with.pairs) (flows_of gs)) more
+          ∙ pairs-kept _ _ (pairs-more plan c.args.new leading c.in-Some-with.pairs between);
+      on_roads = ap (λ gs. all_roads (net_of plan.net) (flows_of gs)) more ∙ roads_more plan c.args.new leading;
+      fits = ap (passes_all (net_of plan.net)) more ∙ ap is_none passed;
+    }
 
 pub returns : goal.returns
 returns c =
