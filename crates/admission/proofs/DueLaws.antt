@@ -1,6 +1,6 @@
 -- A flow that is found in a plan by its number, and what it is due. Assumes nothing.
 use Rattle.std.proofs.Common.{◌≡◌, ℕ, Bool, true, false, cond, eqb, List, [], ◌∷◌, map, Some, None, vec_items, Option, sym, refl, ap, ◌∙◌, subst, arith}
-use Rattle.std.specs.List.{AllByRecursion as All}
+use Rattle.std.specs.List.{AllByRecursion as Each}
 use Rattle.std.specs.Option.{option_map}
 use Rattle.std.proofs.lemmas.Bool.{eq-eqb, ne_eqb}
 use Rattle.flows.specs.declared.flow.Flow.{Flow}
@@ -36,7 +36,7 @@ module _ (g : NumberedModel) (gs : List NumberedModel) (n : ℕ) (whole : Option
       sym step ∙ all
 
 -- what holds of all flows holds of the one that is found
-found_too : (P : FlowModel → Type 0) (gs : List NumberedModel) (n : ℕ) (f : FlowModel) → All P (flows_of gs) →
+found_too : (P : FlowModel → Type 0) (gs : List NumberedModel) (n : ℕ) (f : FlowModel) → Each P (flows_of gs) →
     flow_numbered gs n ≡ Some f → P f
 unfolding flow_numbered
 found_too P [] n f all e = let z : ◌≡◌ {A = ℕ} 0 1 = cc in absurd (omega arith)
@@ -61,7 +61,7 @@ module _ (plan : Plan) where
   abbrev Same : FlowModel → Type 0
   Same f = loads_dues (net_of plan.net) (loads_model plan.loads) f.class 0 f.road ≡ Some (dues (net_of plan.net) fs f.class 0 f.road)
 
-  plan-dues : All Same fs
+  plan-dues : Each Same fs
   plan-dues =
       let net = net_of plan.net in
       let sound = all_routed net (vec_items plan.flows) plan.on_roads in

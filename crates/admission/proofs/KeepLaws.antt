@@ -1,7 +1,7 @@
 -- The tests of a plan say that its sums are those of its flows. Assumes nothing.
 use Rattle.std.proofs.Common.{◌≡◌, ℕ, zero, suc, ◌<◌, ◌≤◌, Bool, true, false, ◌&&◌, ◌⊎◌, List, [], ◌∷◌, ◌++◌, length, get_or, replicate, sym, refl, ap, ◌∙◌, inl, inr, arith}
 use Rattle.std.specs.Str.{bytes_eq}
-use Rattle.std.specs.List.{AllByRecursion as All}
+use Rattle.std.specs.List.{AllByRecursion as Each}
 use Rattle.std.proofs.lemmas.Slice.Eq.{bytes_eq-Decides}
 use Rattle.std.proofs.lemmas.List.{get_or-replicate}
 use Rattle.std.proofs.lemmas.Bool.{and_parts, and_from, cases_lt, cases_eq}
@@ -72,7 +72,7 @@ none-pairs pairs is =
     ∙ ap (λ ts. get_or ts q no_load) (get_or-replicate 64 p (replicate 64 no_load) [] first)
     ∙ get_or-replicate 64 q no_load no_load second)
 
-pub roads_each : (net : NetModel) (fs : List FlowModel) → all_roads net fs ≡ true → All (λ f. leads net f.road ≡ true) fs
+pub roads_each : (net : NetModel) (fs : List FlowModel) → all_roads net fs ≡ true → Each (λ f. leads net f.road ≡ true) fs
 unfolding all_roads
 roads_each net [] is = tt
 roads_each net (f ∷ fs) is =

@@ -2,9 +2,9 @@
 use Rattle.std.proofs.Common.{◌≡◌, ℕ, zero, suc, ◌+◌, ◌-◌, ◌*◌, ◌/◌, ◌<◌, ◌≤◌, Bool, true, false, cond, ◌&&◌, eqb, ltb, List, [], ◌∷◌, ◌++◌, map, length, get_or, take, Some, None, vec_items, box_value, Option, sym, refl, ap, ◌∙◌, subst, zero-add, arith, length-append}
 use mathlib.Core.List.{map-append}
 use lib.ListN.{length-map}
-use Rattle.std.specs.List.{AllByRecursion as All}
+use Rattle.std.specs.List.{AllByRecursion as Each}
 use Rattle.std.proofs.lemmas.List.{length-take-le, length_push, get_or-take}
-use Rattle.std.proofs.ByRecursion.{All-push, All-weaker}
+use Rattle.std.proofs.ByRecursion.{All-push, Each-weaker}
 use Rattle.std.proofs.lemmas.Bool.{lt-ltb, cond-true}
 use lib.Seq.{take-append_seam}
 use Rattle.flows.specs.declared.net.Net.{Net}
@@ -97,16 +97,16 @@ flow_routed net f leading =
 flow-bounded : (f : Flow) → Bounded (flow_of f)
 flow-bounded f = (f.burst_short, f.rate_whole)
 
-all_bounded : (ns : List Numbered) → All Bounded (flows_of (map numbered_model ns))
+all_bounded : (ns : List Numbered) → Each Bounded (flows_of (map numbered_model ns))
 all_bounded [] = tt
 all_bounded (n ∷ ns) = (flow-bounded n.flow, all_bounded ns)
 
 pub all_routed : (net : NetModel) (ns : List Numbered) → all_roads net (flows_of (map numbered_model ns)) ≡ true →
-    All (Routed net) (flows_of (map numbered_model ns))
+    Each (Routed net) (flows_of (map numbered_model ns))
 all_routed net ns is = go ns (keep.roads_each net (flows_of (map numbered_model ns)) is)
   where
-    go : (ns : List Numbered) → All (λ (f : FlowModel). leads net f.road ≡ true) (flows_of (map numbered_model ns)) →
-        All (Routed net) (flows_of (map numbered_model ns))
+    go : (ns : List Numbered) → Each (λ (f : FlowModel). leads net f.road ≡ true) (flows_of (map numbered_model ns)) →
+        Each (Routed net) (flows_of (map numbered_model ns))
     go [] all = tt
     go (n ∷ ns) all = (flow_routed net n.flow all.0, go ns all.1)
 
@@ -152,10 +152,10 @@ module _ (plan : Plan) (n : Numbered) (leading : leads (net_of plan.net) (flow_o
   route : IsRoad (net_of net) f.road
   route = (leads_exactly (net_of net) f.road).0 leading
 
-  low_ports : All (λ p. p < 64) f.road
+  low_ports : Each (λ p. p < 64) f.road
   low_ports =
       let few = ports-few net in
-      All-weaker (λ p. p < length (net_of net).ports) (λ p. p < 64) (λ p less. omega arith) f.road route.known
+      Each-weaker (λ p. p < length (net_of net).ports) (λ p. p < 64) (λ p less. omega arith) f.road route.known
 
   few-flows : length gs ≤ 255 → length fs ≤ 255
   few-flows few = let size = length-map gs (λ (g : NumberedModel). g.flow) in omega arith
@@ -210,8 +210,8 @@ module _ (plan : Plan) (n : Numbered) (leading : leads (net_of plan.net) (flow_o
       Some (pairs_model vs) ≡ pairs_with f f.road (pairs_model pairs) →
       judged (net_of net) net.count net.switches (loads_model us) (pairs_model vs) (gs ++ numbered_model n ∷ []) ≡ refusal_of (net_of net) (gs ++ numbered_model n ∷ [])
   judged-more us vs sum pair =
-      let routed : All (Routed (net_of net)) (flows_of (gs ++ numbered_model n ∷ [])) =
-      subst (All (Routed (net_of net))) (sym more) (All-push (Routed (net_of net)) fs f (all_routed (net_of net) ns plan.on_roads) (flow_routed (net_of net) n.flow leading)) in
+      let routed : Each (Routed (net_of net)) (flows_of (gs ++ numbered_model n ∷ [])) =
+      subst (Each (Routed (net_of net))) (sym more) (All-push (Routed (net_of net)) fs f (all_routed (net_of net) ns plan.on_roads) (flow_routed (net_of net) n.flow leading)) in
       ap (λ k. judged (net_of net) k net.switches (loads_model us) (pairs_model vs) (gs ++ numbered_model n ∷ [])) (sym (ports_count net))
       ∙ ap (λ k. judged (net_of net) (length (net_of net).ports) k (loads_model us) (pairs_model vs) (gs ++ numbered_model n ∷ [])) (sym (switches_count net))
       ∙ admission_laws.judged (net_of net) (loads_model us) (pairs_model vs) (gs ++ numbered_model n ∷ []) (ports-few net) routed (sums_more us sum) (pairs-more vs pair)

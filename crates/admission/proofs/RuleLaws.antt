@@ -2,9 +2,9 @@
 -- Assumes nothing.
 use Rattle.std.proofs.Common.{◌≡◌, ℕ, zero, suc, ◌+◌, ◌-◌, ◌<◌, ◌≤◌, Bool, true, false, cond, eqb, ltb, ◌⊎◌, List, [], ◌∷◌, ◌++◌, length, get_or, take, Some, None, Option, sym, refl, ap, ◌∙◌, subst, ap₂, inl, inr, zero-add, arith}
 use lib.ListN.{length-map}
-use Rattle.std.specs.List.{AllByRecursion as All}
+use Rattle.std.specs.List.{AllByRecursion as Each}
 use Rattle.std.specs.Option.{option_map}
-use Rattle.std.proofs.ByRecursion.{All-weaker}
+use Rattle.std.proofs.ByRecursion.{Each-weaker}
 use Rattle.std.proofs.lemmas.List.{take_all}
 use Rattle.std.proofs.lemmas.Bool.{cases_lt, ltb-true, ltb-false, le-ltb, eq-eqb, ne_eqb, or_from, or_left, or_right, and_from}
 use Rattle.flows.specs.Net.{NetModel}
@@ -27,7 +27,7 @@ use Rattle.admission.proofs.ExampleLaws.{worked-table}
 use Rattle.admission.proofs.LowestLaws.{lowest_law}
 
 -- what follows of each element from two facts of it
-pub all_both : {X : Type 0} (P Q R : X → Type 0) → ((x : X) → P x → Q x → R x) → (xs : List X) → All P xs → All Q xs → All R xs
+pub all_both : {X : Type 0} (P Q R : X → Type 0) → ((x : X) → P x → Q x → R x) → (xs : List X) → Each P xs → Each Q xs → Each R xs
 all_both P Q R h [] a b = tt
 all_both P Q R h (x ∷ xs) a b = (h x a.0 b.0, all_both P Q R h xs a.1 b.1)
 
@@ -57,20 +57,20 @@ none_bare net fs none s switch =
     ltb-false (memory_of net s) (switch_need net fs s) ((lowest_law (is_bare net fs) (length net.memories)).none none s switch)
 
 -- the rates that are kept for a port
-rates-kept : (p : ℕ) (fs : List FlowModel) → All Classed fs → total (load_of p no_load fs).rates ≡ rates p fs
+rates-kept : (p : ℕ) (fs : List FlowModel) → Each Classed fs → total (load_of p no_load fs).rates ≡ rates p fs
 rates-kept p fs low =
     let size = (sized_of p no_load fs sized_none).rates in
     let all : take 8 (load_of p no_load fs).rates ≡ (load_of p no_load fs).rates = take_all 8 (load_of p no_load fs).rates (omega arith) in
     sym (ap total all) ∙ kept-rates p 8 no_load fs sized_none low ∙ ap (λ n. n + before p 8 fs) (total-none 8 8) ∙ zero-add (before p 8 fs)
 
 -- no road passes a port beyond the net's
-passes_none : (n p : ℕ) (ps : List ℕ) → n ≤ p → All (λ q. q < n) ps → passes p ps ≡ false
+passes_none : (n p : ℕ) (ps : List ℕ) → n ≤ p → Each (λ q. q < n) ps → passes p ps ≡ false
 unfolding passes
 passes_none n p [] beyond known = refl
 passes_none n p (q ∷ ps) beyond known =
     or_from (eqb p q) (passes p ps) (ne_eqb p q (λ e. omega (arith, known.0))) (passes_none n p ps beyond known.1)
 
-rates-none : (net : NetModel) (p : ℕ) (fs : List FlowModel) → length net.ports ≤ p → All (Routed net) fs → rates p fs ≡ 0
+rates-none : (net : NetModel) (p : ℕ) (fs : List FlowModel) → length net.ports ≤ p → Each (Routed net) fs → rates p fs ≡ 0
 unfolding before
 rates-none net p [] beyond sound = refl
 rates-none net p (f ∷ fs) beyond sound =
@@ -78,24 +78,24 @@ rates-none net p (f ∷ fs) beyond sound =
     rw (passes_none (length net.ports) p f.road beyond sound.0.route.known) (omega arith)
 
 -- a road passes each of its ports
-road-passes : (ps : List ℕ) → All (λ p. passes p ps ≡ true) ps
+road-passes : (ps : List ℕ) → Each (λ p. passes p ps ≡ true) ps
 unfolding passes
 road-passes [] = tt
 road-passes (q ∷ ps) = (
   or_left (eqb q q) (passes q ps) (eq-eqb q q refl),
-  All-weaker (λ p. passes p ps ≡ true) (λ p. passes p (q ∷ ps) ≡ true) (λ p on. or_right (eqb p q) (passes p ps) on) ps (road-passes ps),
+  Each-weaker (λ p. passes p ps ≡ true) (λ p. passes p (q ∷ ps) ≡ true) (λ p on. or_right (eqb p q) (passes p ps) on) ps (road-passes ps),
 )
 
 -- the rate of each flow is among those of its class
 abbrev pub Among : List FlowModel → FlowModel → Type 0
 Among fs f = (p : ℕ) → over p f ≡ true → f.rate ≤ rates_in p f.class fs
 
-pub each_among : (fs : List FlowModel) → All (Among fs) fs
+pub each_among : (fs : List FlowModel) → Each (Among fs) fs
 unfolding rates_in
 each_among [] = tt
 each_among (g ∷ fs) = (
   λ p on. rw (and_from (over p g) (eqb g.class g.class) on (eq-eqb g.class g.class refl)) (omega arith),
-  All-weaker (Among fs) (Among (g ∷ fs)) (λ f among p on. let few = among p on in omega arith) fs (each_among fs),
+  Each-weaker (Among fs) (Among (g ∷ fs)) (λ f among p on. let few = among p on in omega arith) fs (each_among fs),
 )
 
 -- the last of the dues along a road is the due over it
@@ -107,12 +107,12 @@ last-due net fs c (p ∷ ps) some =
     ap (λ n. get_or (dues net fs c 0 (p ∷ ps)) n 0) e ∙ last_is_due net fs c p ps
 
 -- for flows with roads through a net
-module _ (net : NetModel) (fs : List FlowModel) (sound : All (Routed net) fs) where
-  low : All Classed fs
-  low = All-weaker (Routed net) Classed (λ f h. h.class_low) fs sound
+module _ (net : NetModel) (fs : List FlowModel) (sound : Each (Routed net) fs) where
+  low : Each Classed fs
+  low = Each-weaker (Routed net) Classed (λ f h. h.class_low) fs sound
 
-  rated : All Rated fs
-  rated = All-weaker (Routed net) Rated (λ f h. h.rate_some) fs sound
+  rated : Each Rated fs
+  rated = Each-weaker (Routed net) Rated (λ f h. h.rate_some) fs sound
 
   -- no port at all is promised more than all of itself, as none of the net is
   pub room_everywhere : ((p : ℕ) → p < length net.ports → rates p fs ≤ den) → (p : ℕ) → rates p fs ≤ den
@@ -127,7 +127,7 @@ module _ (net : NetModel) (fs : List FlowModel) (sound : All (Routed net) fs) wh
       (f : FlowModel) → Routed net f → Among fs f →
       loads_dues net loads f.class 0 f.road ≡ Some (dues net fs f.class 0 f.road)
   dues_same loads few kept room f is among =
-      let known : All (λ p. (p < 64) × (before p f.class fs < den)) f.road =
+      let known : Each (λ p. (p < 64) × (before p f.class fs < den)) f.road =
       all_both (λ p. p < length net.ports) (λ p. passes p f.road ≡ true) (λ p. (p < 64) × (before p f.class fs < den))
       (λ p port on. (omega arith, promises p on)) f.road is.route.known (road-passes f.road) in
       dues-kept net loads fs f.class 0 f.road kept low is.class_low known
@@ -142,7 +142,7 @@ module _ (net : NetModel) (fs : List FlowModel) (sound : All (Routed net) fs) wh
 
 -- by tables that are kept for flows of a net
 module _ (net : NetModel) (loads : List LoadModel) (pairs : List (List LoadModel)) (fs : List FlowModel) (few : length net.ports ≤ 64)
-    (sound : All (Routed net) fs) (kept : Kept loads fs) (between : PairsOf pairs fs) where
+    (sound : Each (Routed net) fs) (kept : Kept loads fs) (between : PairsOf pairs fs) where
   -- 4: by the sums and by the flows
   over_same : (p : ℕ) → p < length net.ports → over_promised loads p ≡ is_over fs p
   over_same p port = ap (ltb den) (ap (λ (t : LoadModel). total t.rates) (kept p (omega arith)) ∙ rates-kept p fs (low net fs sound))
@@ -168,7 +168,7 @@ first_same v x y a b same rest = ap (λ o. first_of (option_map v o) a) same ∙
     by (Some k) then = refl
 
 first_late_same : (net : NetModel) (loads : List LoadModel) (fs : List FlowModel) (gs : List NumberedModel) →
-    All (λ f. is_late net loads f ≡ ltb f.deadline (due net fs f)) (flows_of gs) → first_late net loads gs ≡ first_late_of net fs gs
+    Each (λ f. is_late net loads f ≡ ltb f.deadline (due net fs f)) (flows_of gs) → first_late net loads gs ≡ first_late_of net fs gs
 unfolding first_late first_late_of
 first_late_same net loads fs [] same = refl
 first_late_same net loads fs (g ∷ gs) same = ap₂ (λ x y. cond x (Some g.number) y) same.0 (first_late_same net loads fs gs same.1)
@@ -230,17 +230,17 @@ crowded-some n r e = by (ltb 256 n) refl e
 abbrev Punctual : NetModel → List FlowModel → FlowModel → Type 0
 Punctual net fs f = due net fs f ≤ f.deadline
 
-late-none : (net : NetModel) (fs : List FlowModel) (gs : List NumberedModel) → first_late_of net fs gs ≡ None → All (Punctual net fs) (flows_of gs)
+late-none : (net : NetModel) (fs : List FlowModel) (gs : List NumberedModel) → first_late_of net fs gs ≡ None → Each (Punctual net fs) (flows_of gs)
 unfolding first_late_of
 late-none net fs [] e = tt
 late-none net fs (g ∷ gs) e = by (ltb g.flow.deadline (due net fs g.flow)) refl e (late-none net fs gs)
   where
     by : (b : Bool) → ltb g.flow.deadline (due net fs g.flow) ≡ b → cond b (Some g.number) (first_late_of net fs gs) ≡ None →
-        (first_late_of net fs gs ≡ None → All (Punctual net fs) (flows_of gs)) → All (Punctual net fs) (flows_of (g ∷ gs))
+        (first_late_of net fs gs ≡ None → Each (Punctual net fs) (flows_of gs)) → Each (Punctual net fs) (flows_of (g ∷ gs))
     by true late got more = let z : ◌≡◌ {A = ℕ} 0 1 = cc in absurd (omega arith)
     by false early got more = (ltb-false g.flow.deadline (due net fs g.flow) early, more got)
 
-none-late : (net : NetModel) (fs : List FlowModel) (gs : List NumberedModel) → All (Punctual net fs) (flows_of gs) → first_late_of net fs gs ≡ None
+none-late : (net : NetModel) (fs : List FlowModel) (gs : List NumberedModel) → Each (Punctual net fs) (flows_of gs) → first_late_of net fs gs ≡ None
 unfolding first_late_of
 none-late net fs [] all = refl
 none-late net fs (g ∷ gs) all =
@@ -254,7 +254,7 @@ record LateAt (net : NetModel) (fs : List FlowModel) (gs : List NumberedModel) (
   split : gs ≡ ahead ++ here ∷ behind
   named : here.number ≡ number
   late : here.flow.deadline < due net fs here.flow
-  punctual : All (Punctual net fs) (flows_of ahead)
+  punctual : Each (Punctual net fs) (flows_of ahead)
 
 late-some : (net : NetModel) (fs : List FlowModel) (gs : List NumberedModel) (k : ℕ) → first_late_of net fs gs ≡ Some k → LateAt net fs gs k
 unfolding first_late_of

@@ -1,6 +1,6 @@
 -- The rules of admission, by net and flows alone. Assumes nothing.
 use Rattle.std.specs.Prelude.{◌≡◌, ℕ, ◌<◌, ◌≤◌, Bool, cond, List, [], ◌∷◌, ◌++◌, map, length, Some, None, Option, nat_lt, slice_index}
-use Rattle.std.specs.List.{AllByRecursion as All}
+use Rattle.std.specs.List.{AllByRecursion as Each}
 use Rattle.std.specs.Option.{option_map}
 use Rattle.flows.specs.Net.{NetModel}
 use Rattle.flows.specs.Flow.{FlowModel, IsRoad}
@@ -29,7 +29,7 @@ memory_of net s = slice_index net.memories s
 pub record Fits (net : NetModel) (fs : List FlowModel) : Type 0 where
   pub few : length fs ≤ 256
   pub promised : (p : ℕ) → p < length net.ports → rates p fs ≤ den
-  pub punctual : All (λ f. due net fs f ≤ f.deadline) fs
+  pub punctual : Each (λ f. due net fs f ≤ f.deadline) fs
   pub roomy : (s : ℕ) → s < length net.memories → switch_need net fs s ≤ memory_of net s
 
 -- The first of these that does not hold, in the order 7, 4, 5, 6, and where.
@@ -39,9 +39,9 @@ pub data FailsFirst (net : NetModel) (gs : List NumberedModel) : Refusal → Typ
       ((q : ℕ) → q < p → rates q (flows_of gs) ≤ den) → FailsFirst net gs (Promised p)
   late_flow : (before after : List NumberedModel) (g : NumberedModel) → gs ≡ before ++ g ∷ after → length gs ≤ 256 →
       ((p : ℕ) → p < length net.ports → rates p (flows_of gs) ≤ den) → g.flow.deadline < due net (flows_of gs) g.flow →
-      All (λ f. due net (flows_of gs) f ≤ f.deadline) (flows_of before) → FailsFirst net gs (Late g.number)
+      Each (λ f. due net (flows_of gs) f ≤ f.deadline) (flows_of before) → FailsFirst net gs (Late g.number)
   short_switch : (s : ℕ) → length gs ≤ 256 → ((p : ℕ) → p < length net.ports → rates p (flows_of gs) ≤ den) →
-      All (λ f. due net (flows_of gs) f ≤ f.deadline) (flows_of gs) → s < length net.memories →
+      Each (λ f. due net (flows_of gs) f ≤ f.deadline) (flows_of gs) → s < length net.memories →
       memory_of net s < switch_need net (flows_of gs) s →
       ((r : ℕ) → r < s → switch_need net (flows_of gs) r ≤ memory_of net r) → FailsFirst net gs (Memory s)
 
@@ -87,5 +87,5 @@ pub record Routed (net : NetModel) (f : FlowModel) : Type 0 where
 abbrev pub JudgedByRules : Type 0
 JudgedByRules =
     (net : NetModel) (loads : List LoadModel) (pairs : List (List LoadModel)) (gs : List NumberedModel) →
-    length net.ports ≤ 64 → All (Routed net) (flows_of gs) → Kept loads (flows_of gs) → PairsOf pairs (flows_of gs) →
+    length net.ports ≤ 64 → Each (Routed net) (flows_of gs) → Kept loads (flows_of gs) → PairsOf pairs (flows_of gs) →
     judged net (length net.ports) (length net.memories) loads pairs gs ≡ refusal_of net gs

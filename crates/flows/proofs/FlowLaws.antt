@@ -1,6 +1,6 @@
 -- Flows that are read are sound, and are what is written for them. Assumes nothing.
 use Rattle.std.proofs.Common.{◌≡◌, ℕ, suc, ◌+◌, ◌^◌, ◌<◌, ◌≤◌, List, [], ◌∷◌, ◌++◌, length, sym, refl, ap, ◌∙◌, subst, subst₂, append_assoc, zero-add, arith, length-append}
-use Rattle.std.specs.List.{AllByRecursion as All}
+use Rattle.std.specs.List.{AllByRecursion as Each}
 use Rattle.record_bytes.specs.Reading.{Cursor, Outcome, read, fault, and_then, closed, start}
 use Rattle.record_bytes.specs.Numbers.{number, ranged, kind_byte, bytes_of, IsByte}
 use Rattle.record_bytes.specs.Format.{Format}
@@ -70,7 +70,7 @@ flow_written net few f sound at rest =
     )
     (ap (λ n. read f (record { at = n; rest = rest })) places)
 
-flow_told : (net : NetModel) (f : FlowModel) (c after : Cursor) → flow_from net c ≡ read f after → All IsByte c.rest →
+flow_told : (net : NetModel) (f : FlowModel) (c after : Cursor) → flow_from net c ≡ read f after → Each IsByte c.rest →
     SoundFlow net f × Told c after (flow_bytes f)
 unfolding flow_from
 flow_told net f c after e bytes =

@@ -1,20 +1,20 @@
 -- The test of a road is passed by roads, and by nothing else. Assumes nothing.
 use Rattle.std.proofs.Common.{◌≡◌, ℕ, ◌<◌, ◌≤◌, Bool, true, false, not, ◌&&◌, eqb, ltb, List, [], ◌∷◌, length, get_or, take, sym, refl, ap, ◌∙◌, arith}
-use Rattle.std.specs.List.{AllByRecursion as All}
+use Rattle.std.specs.List.{AllByRecursion as Each}
 use Rattle.std.proofs.lemmas.Bool.{and_parts, and_from, and_left, ltb-true, lt-ltb, eqb-true, eqb-false, eq-eqb, ne_eqb, not-true, not_from_false, or_parts, or_from}
 use Rattle.flows.specs.Net.{NetModel, port_at}
 use Rattle.flows.specs.Flow.{Once, Joined, IsRoad}
 use Rattle.flows.specs.FlowFormat.{passes}
 use Rattle.flows.specs.Roads.{goes_on, step_fits, leads, LeadsExactly}
 
-apart_all : (p : ℕ) (ps : List ℕ) → passes p ps ≡ false → All (λ q. q ≡ p → ⊥) ps
+apart_all : (p : ℕ) (ps : List ℕ) → passes p ps ≡ false → Each (λ q. q ≡ p → ⊥) ps
 unfolding passes
 apart_all p [] apart = tt
 apart_all p (q ∷ qs) apart =
     let parts = or_parts (eqb p q) (passes p qs) apart in
     ((λ e. eqb-false p q parts.0 (sym e)), apart_all p qs parts.1)
 
-all_apart : (p : ℕ) (ps : List ℕ) → All (λ q. q ≡ p → ⊥) ps → passes p ps ≡ false
+all_apart : (p : ℕ) (ps : List ℕ) → Each (λ q. q ≡ p → ⊥) ps → passes p ps ≡ false
 unfolding passes
 all_apart p [] apart = refl
 all_apart p (q ∷ qs) apart = or_from (eqb p q) (passes p qs) (ne_eqb p q (λ e. apart.0 (sym e))) (all_apart p qs apart.1)

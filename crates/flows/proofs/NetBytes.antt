@@ -1,7 +1,7 @@
 -- Nets are read from what is written for them, and from nothing else. Assumes nothing.
 use Rattle.std.proofs.Common.{◌≡◌, ℕ, suc, ◌+◌, ◌*◌, ◌^◌, ◌<◌, ◌≤◌, max, List, [], ◌∷◌, ◌++◌, length, sym, refl, ap, ◌∙◌, subst, subst₂, append_assoc, arith, length-append}
-use Rattle.std.specs.List.{flat_map, AllByRecursion as All}
-use Rattle.std.proofs.ByRecursion.{All-weaker}
+use Rattle.std.specs.List.{flat_map, AllByRecursion as Each}
+use Rattle.std.proofs.ByRecursion.{Each-weaker}
 use Rattle.record_bytes.specs.Reading.{Cursor, Outcome, read, and_then, several}
 use Rattle.record_bytes.specs.Numbers.{number, ranged, kind_byte, bytes_of, IsByte}
 use Rattle.record_bytes.specs.Format.{Format}
@@ -45,7 +45,7 @@ port_written p fits at rest =
     )
     (ap (λ n. read p (record { at = n; rest = rest })) places)
 
-port_told : (p : Port) (c after : Cursor) → port_from c ≡ read p after → All IsByte c.rest → Fitting p × Told c after (port_bytes p)
+port_told : (p : Port) (c after : Cursor) → port_from c ≡ read p after → Each IsByte c.rest → Fitting p × Told c after (port_bytes p)
 unfolding port_from
 port_told p c after e bytes =
     let switch = both_read (number 1 c) _ p after e in
@@ -61,15 +61,15 @@ port_told p c after e bytes =
     )
 
 -- where each switch that a port names is there, there are as many as are needed
-needed_enough : (least s : ℕ) (ports : List Port) → least ≤ s → All (SoundPort s) ports → needed least ports ≤ s
+needed_enough : (least s : ℕ) (ports : List Port) → least ≤ s → Each (SoundPort s) ports → needed least ports ≤ s
 unfolding needed
 needed_enough least s [] enough sound = enough
 needed_enough least s (p ∷ ps) enough sound =
     let first = sound.0 in
     needed_enough (max (max least (p.switch + 1)) (p.ends + 1)) s ps (omega arith) sound.1
 
-fitting : (s : ℕ) → s ≤ 255 → (ports : List Port) → All (SoundPort s) ports → All Fitting ports
-fitting s few = All-weaker (SoundPort s) Fitting (λ p sound. (omega (arith, sound.0), omega (arith, sound.1), sound.2))
+fitting : (s : ℕ) → s ≤ 255 → (ports : List Port) → Each (SoundPort s) ports → Each Fitting ports
+fitting s few = Each-weaker (SoundPort s) Fitting (λ p sound. (omega (arith, sound.0), omega (arith, sound.1), sound.2))
 
 steady_net : (least : ℕ) → Steady (net_from least)
 unfolding net_from
@@ -88,7 +88,7 @@ memory_written m few at rest =
     let low : 0 ≤ m = omega arith in
     rw (ranged_written 4 0 1048576 m at rest fits low few, length-bytes_of 4 m) refl
 
-memory_told : (m : ℕ) (c after : Cursor) → ranged 4 0 1048576 c ≡ read m after → All IsByte c.rest → (m ≤ 1048576) × Told c after (bytes_of 4 m)
+memory_told : (m : ℕ) (c after : Cursor) → ranged 4 0 1048576 c ≡ read m after → Each IsByte c.rest → (m ≤ 1048576) × Told c after (bytes_of 4 m)
 memory_told m c after e bytes = let told = ranged_told 4 0 1048576 m c after e bytes in (told.1, told.3)
 
 net_written : (least : ℕ) (n : NetModel) → SoundAtLeast least n → (at : ℕ) (rest : List ℕ) →
@@ -118,7 +118,7 @@ net_written least n sound at rest =
     )
     (ap (λ m. read n (record { at = m; rest = rest })) places)
 
-net_told : (least : ℕ) (n : NetModel) (c after : Cursor) → net_from least c ≡ read n after → All IsByte c.rest →
+net_told : (least : ℕ) (n : NetModel) (c after : Cursor) → net_from least c ≡ read n after → Each IsByte c.rest →
     SoundAtLeast least n × Told c after (net_bytes n)
 unfolding net_from
 net_told least n c after e bytes =

@@ -1,8 +1,8 @@
 -- Nets that are read are sound. Assumes nothing.
 use Rattle.std.proofs.Common.{◌≡◌, ℕ, suc, ◌+◌, ◌<◌, ◌≤◌, max, List, [], ◌∷◌, ◌++◌, length, get_or, take, sym, refl, ap, ◌∙◌, subst, subst₂, arith}
-use Rattle.std.specs.List.{flat_map, AllByRecursion as All}
+use Rattle.std.specs.List.{flat_map, AllByRecursion as Each}
 use Rattle.std.proofs.lemmas.List.{get_or-take, length-take}
-use Rattle.std.proofs.ByRecursion.{All-get_or, All-weaker}
+use Rattle.std.proofs.ByRecursion.{All-get_or, Each-weaker}
 use Rattle.record_bytes.specs.Reading.{Cursor, Outcome, read, fault, and_then, several}
 use Rattle.record_bytes.specs.Numbers.{number, ranged, kind_byte}
 use Rattle.record_bytes.proofs.Sequence.{both_read, same_value, ranged_bounds, several_all}
@@ -25,7 +25,7 @@ port_wire p c after e =
 
 -- where there are as many switches as are needed, each that a port names is there
 pub needed_names : (least s : ℕ) (ports : List Port) → needed least ports ≤ s →
-    (least ≤ s) × All (λ (p : Port). (p.switch < s) × (p.ends < s)) ports
+    (least ≤ s) × Each (λ (p : Port). (p.switch < s) × (p.ends < s)) ports
 unfolding needed
 needed_names least s [] enough = (enough, tt)
 needed_names least s (p ∷ ps) enough =
@@ -33,8 +33,8 @@ needed_names least s (p ∷ ps) enough =
     let most = more.0 in
     (omega arith, ((omega arith, omega arith), more.1))
 
-both_hold : (switches : ℕ) (ports : List Port) → All (λ (p : Port). (p.switch < switches) × (p.ends < switches)) ports →
-    All (λ (p : Port). p.wire ≤ 1023) ports → All (SoundPort switches) ports
+both_hold : (switches : ℕ) (ports : List Port) → Each (λ (p : Port). (p.switch < switches) × (p.ends < switches)) ports →
+    Each (λ (p : Port). p.wire ≤ 1023) ports → Each (SoundPort switches) ports
 both_hold switches [] named wires = tt
 both_hold switches (p ∷ ps) named wires = ((named.0.0, named.0.1, wires.0), both_hold switches ps named.1 wires.1)
 
@@ -83,7 +83,7 @@ places_sound ports count memory switches ports-size memory-size sound = (
       in_table switches memory memory-size,
       (
         (λ k h.
-            let all : All (SoundPort switches) (take count ports) = rw memory-size at sound.each_port in
+            let all : Each (SoundPort switches) (take count ports) = rw memory-size at sound.each_port in
             let there : k < length (take count ports) = omega arith in
             rw (get_or-take count ports k no_port h) at (All-get_or (SoundPort switches) (take count ports) k no_port there all)),
         (

@@ -2,7 +2,7 @@
 use Rattle.std.proofs.Common.{◌≡◌, ℕ, zero, suc, ◌+◌, ◌-◌, ◌<◌, ◌≤◌, Bool, true, false, cond, not, ◌&&◌, ◌||◌, eqb, ltb, List, [], ◌∷◌, ◌++◌, length, get_or, take, set, sym, refl, ap, ◌∙◌, subst, append_assoc, add-zero, zero-add, arith}
 use Rattle.std.proofs.lemmas.List.{take_more_set, append-nil, length_push, get_or-take}
 use Rattle.std.proofs.ByRecursion.{All-push, All-get_or}
-use Rattle.std.specs.List.{AllByRecursion as All}
+use Rattle.std.specs.List.{AllByRecursion as Each}
 use Rattle.std.proofs.lemmas.Bool.{le-ltb, lt-ltb, ltb-true, eqb-true, eqb-false, eq-eqb, ne_eqb, or_parts, or_from, and_parts, and_from, not-true, not_from_false}
 use Rattle.record_bytes.specs.Reading.{Cursor, Outcome, read, fault, and_then}
 use Rattle.record_bytes.specs.Numbers.{number, IsByte}
@@ -111,7 +111,7 @@ once_split [] ps p once = refl
 once_split (q ∷ qs) ps p once =
     or_from (eqb p q) (passes p qs) (ne_eqb p q (all_middle (λ r. r ≡ q → ⊥) qs ps p once.0)) (once_split qs ps p once.1)
   where
-    all_middle : (P : ℕ → Type 0) (xs ys : List ℕ) (x : ℕ) → All P (xs ++ x ∷ ys) → P x
+    all_middle : (P : ℕ → Type 0) (xs ys : List ℕ) (x : ℕ) → Each P (xs ++ x ∷ ys) → P x
     all_middle P [] ys x all = all.0
     all_middle P (y ∷ xs) ys x all = all_middle P xs ys x all.1
 
@@ -121,7 +121,7 @@ joined_split net [] ps p joined = refl
 joined_split net (q ∷ []) ps p joined = eq-eqb _ _ (sym joined.0)
 joined_split net (q ∷ r ∷ rs) ps p joined = joined_split net (r ∷ rs) ps p joined.1
 
-known_split : (P : ℕ → Type 0) (road ps : List ℕ) (p : ℕ) → All P (road ++ p ∷ ps) → P p
+known_split : (P : ℕ → Type 0) (road ps : List ℕ) (p : ℕ) → Each P (road ++ p ∷ ps) → P p
 known_split P [] ps p all = all.0
 known_split P (q ∷ qs) ps p all = known_split P qs ps p all.1
 
@@ -158,7 +158,7 @@ road_told net (suc n) road ps c after e is =
     (omega (arith, more.0, length_push road got.0), more.1)
 
 -- the bytes of a road are its ports
-pub road-bytes : (net : NetModel) (n : ℕ) (road ps : List ℕ) (c after : Cursor) → road_from net n road c ≡ read ps after → All IsByte c.rest →
+pub road-bytes : (net : NetModel) (n : ℕ) (road ps : List ℕ) (c after : Cursor) → road_from net n road c ≡ read ps after → Each IsByte c.rest →
     (qs : List ℕ) × (ps ≡ road ++ qs) × Told c after qs
 unfolding road_from
 road-bytes net zero road ps c after e bytes =

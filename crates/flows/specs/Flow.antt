@@ -1,6 +1,6 @@
 -- Flows, and the roads they take through a net. Assumes nothing.
 use Rattle.std.specs.Prelude.{◌≡◌, ℕ, ◌<◌, ◌≤◌, List, [], ◌∷◌, length, take, ◌≢◌}
-use Rattle.std.specs.List.{AllByRecursion as All}
+use Rattle.std.specs.List.{AllByRecursion as Each}
 use Rattle.flows.specs.Net.{NetModel, port_at}
 
 -- Lengths and bursts are in ticks of sending, rates in millionths of a port, deadlines in ticks. A lower class goes first.
@@ -34,7 +34,7 @@ pub record InRange (f : FlowModel) : Type 0 where
 -- no port stands twice on a road
 abbrev pub Once : List ℕ → Type 0
 Once [] = Unit {0}
-Once (p ∷ ps) = All (λ q. q ≢ p) ps × Once ps
+Once (p ∷ ps) = Each (λ q. q ≢ p) ps × Once ps
 
 -- each port stands on the switch where the wire of the one before ends
 abbrev pub Joined : NetModel → List ℕ → Type 0
@@ -44,7 +44,7 @@ Joined net (p ∷ q ∷ ps) = ((port_at net q).switch ≡ (port_at net p).ends) 
 
 -- a road through a net
 pub record IsRoad (net : NetModel) (road : List ℕ) : Type 0 where
-  pub known : All (λ p. p < length net.ports) road
+  pub known : Each (λ p. p < length net.ports) road
   pub once : Once road
   pub connected : Joined net road
 

@@ -1,6 +1,6 @@
 -- Nets: ports, the wires they send into, and switches with their memory. Assumes nothing.
 use Rattle.std.specs.Prelude.{ℕ, ◌+◌, ◌<◌, ◌≤◌, List, [], ◌∷◌, length, take, slice_index_or}
-use Rattle.std.specs.List.{AllByRecursion as All}
+use Rattle.std.specs.List.{AllByRecursion as Each}
 use Rattle.flows.specs.declared.port.Port.{Port}
 
 -- ports are numbered from 0, and so are switches; of a switch its memory in ticks
@@ -23,8 +23,8 @@ SoundPort switches p = (p.switch < switches) × (p.ends < switches) × (p.wire �
 pub record SoundNet (net : NetModel) : Type 0 where
   pub ports_few : length net.ports ≤ 64
   pub switches_few : length net.memories ≤ 255
-  pub each_port : All (SoundPort (length net.memories)) net.ports
-  pub each_memory : All (λ m. m ≤ 1048576) net.memories
+  pub each_port : Each (SoundPort (length net.memories)) net.ports
+  pub each_memory : Each (λ m. m ≤ 1048576) net.memories
 
 -- a net in a table of 64 ports and one of 255 memories, of which the first count and the first switches are in use
 abbrev pub net_model : List Port → ℕ → List ℕ → ℕ → NetModel

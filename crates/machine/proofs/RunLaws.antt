@@ -1,6 +1,6 @@
 -- What the code does at one port is a run of the port. Assumes nothing.
 use Rattle.std.proofs.Common.{◌≡◌, ℕ, zero, suc, ◌+◌, ◌≤◌, Bool, true, cond, eqb, List, [], ◌∷◌, map, get_or, Some, None, Option, sym, refl, ap, ◌∙◌, subst, inl, inr, arith}
-use Rattle.std.specs.List.{AllByRecursion as All}
+use Rattle.std.specs.List.{AllByRecursion as Each}
 use Rattle.std.proofs.lemmas.Bool.{cases_Bool, eqb-true}
 use Rattle.flows.specs.Flow.{FlowModel}
 use Rattle.promises.specs.Promises.{promise}
@@ -35,7 +35,7 @@ goes_as_port e p fs room classes _ (ticks {s = s} goes may) =
 
 -- what leaves here was being sent there, and is in time there
 left_in_time : (e : ℕ → Bool) (p : ℕ) (fs : List FlowModel) (t : ℕ) (x : Option Sending) (y : Option port.Sending) (packet : Packet) →
-    sent e x ≡ sent_of e y → All (Punctual p fs) (leaving y) → e packet.flow ≡ true → leaves t x ≡ Gone packet →
+    sent e x ≡ sent_of e y → Each (Punctual p fs) (leaving y) → e packet.flow ≡ true → leaves t x ≡ Gone packet →
     t ≤ packet.edge + promise p (flow_at fs packet.flow).class fs
 left_in_time e p fs t None y packet is punctual enters gone = let z : ◌≡◌ {A = ℕ} 0 1 = cc in absurd (omega arith)
 left_in_time e p fs t (Some x) None packet is punctual enters gone = let z : ◌≡◌ {A = ℕ} 0 1 = cc in absurd (omega arith)

@@ -1,6 +1,6 @@
 -- What the code does at one port are steps of a port, and so it keeps what a port promises. Assumes nothing.
 use Rattle.std.specs.Prelude.{◌≡◌, ℕ, ◌+◌, ◌^◌, ◌<◌, ◌≤◌, Bool, true, List, [], slice_index_or}
-use Rattle.std.specs.List.{AllByRecursion as All}
+use Rattle.std.specs.List.{AllByRecursion as Each}
 use Rattle.flows.specs.Flow.{FlowModel}
 use Rattle.promises.specs.Promises.{promise, queue_need}
 use Rattle.lines.specs.declared.packet.Packet.{Packet}
@@ -78,7 +78,7 @@ OfGate enters p fs classes at_edge packet = Fitting p fs classes packet × (ente
 abbrev pub OpenGoes : Type 0
 OpenGoes =
     (enters : ℕ → Bool) (p : ℕ) (fs : List FlowModel) (room : ℕ) (classes : List ℕ) (s : MachineModel) (at_edge : Bool) (waits : List Packet) →
-    Goes enters p fs room classes s → All (OfGate enters p fs classes at_edge) waits →
+    Goes enters p fs room classes s → Each (OfGate enters p fs classes at_edge) waits →
     Goes enters p fs room classes (after_open s (opened room at_edge classes s.tick waits s.levels s.queues))
 
 -- after the port took, unless it is sending, the tick may end

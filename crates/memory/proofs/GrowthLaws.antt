@@ -1,6 +1,6 @@
 -- One flow more never shortens a due or a need. Assumes nothing.
 use Rattle.std.proofs.Common.{◌≡◌, ℕ, zero, suc, ◌+◌, ◌-◌, ◌*◌, ◌/◌, ◌≤◌, Bool, true, false, cond, ◌&&◌, eqb, List, [], ◌∷◌, ◌++◌, inl, inr, arith}
-use Rattle.std.specs.List.{AllByRecursion as All}
+use Rattle.std.specs.List.{AllByRecursion as Each}
 use Rattle.std.proofs.lemmas.Nat.{mul-le}
 use Rattle.std.proofs.lemmas.Bool.{cases_lt}
 use Rattle.flows.specs.Net.{NetModel, port_at}
@@ -57,7 +57,7 @@ regulator-grows p q c fs gs f room =
     let more = window_more p q c v fs gs f in
     rounded_up (windowed p q c w (fs ++ gs)) (windowed p q c v (fs ++ f ∷ gs)) (omega arith)
 
-module _ (fs gs : List FlowModel) (f : FlowModel) (low : All Classed (fs ++ f ∷ gs)) (rated : All Rated (fs ++ f ∷ gs))
+module _ (fs gs : List FlowModel) (f : FlowModel) (low : Each Classed (fs ++ f ∷ gs)) (rated : Each Rated (fs ++ f ∷ gs))
     (room : (p : ℕ) → rates p (fs ++ f ∷ gs) ≤ den) where
   -- where a class has no promise, none of its flows goes over the port
   class-grows : (p q c : ℕ) → regulator_need p q c (fs ++ gs) ≤ regulator_need p q c (fs ++ f ∷ gs)

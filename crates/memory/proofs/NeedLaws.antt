@@ -1,6 +1,6 @@
 -- The sums that are kept give what the flows need. Assumes nothing.
 use Rattle.std.proofs.Common.{◌≡◌, ℕ, zero, suc, ◌+◌, ◌-◌, ◌*◌, ◌/◌, ◌<◌, ◌≤◌, Bool, true, false, cond, ◌&&◌, ◌||◌, eqb, ltb, leb, ◌⊎◌, List, [], ◌∷◌, length, get_or, take, unwrap_or, sym, refl, ap, ◌∙◌, ap₂, inl, inr, zero-add, arith}
-use Rattle.std.specs.List.{AllByRecursion as All}
+use Rattle.std.specs.List.{AllByRecursion as Each}
 use Rattle.std.proofs.lemmas.List.{take_all}
 use Rattle.std.proofs.lemmas.Bool.{cases_lt, cases_Bool, lt-ltb, le-ltb, eqb-true, or_cases, or_left, or_right, and_parts, and_from, eq-eqb, ne_eqb}
 use Rattle.flows.specs.Net.{NetModel, port_at}
@@ -21,7 +21,7 @@ rates_in p c [] = 0
 rates_in p c (f ∷ fs) = cond (over p f && eqb f.class c) f.rate 0 + rates_in p c fs
 
 -- those of lower classes and those of class c are among all
-pub rates_among : (p c : ℕ) (fs : List FlowModel) → All Classed fs → before p c fs + rates_in p c fs ≤ before p 8 fs
+pub rates_among : (p c : ℕ) (fs : List FlowModel) → Each Classed fs → before p c fs + rates_in p c fs ≤ before p 8 fs
 unfolding before rates_in
 rates_among p c [] low = omega arith
 rates_among p c (f ∷ fs) low =
@@ -50,7 +50,7 @@ goes_over p q (x ∷ y ∷ ys) e =
     ]
 
 -- where no flow of a class goes over a port, nothing comes into the regulators of that class behind it
-pub no_window : (p q c w : ℕ) (fs : List FlowModel) → All Rated fs → rates_in p c fs ≡ 0 → windowed p q c w fs ≡ 0
+pub no_window : (p q c w : ℕ) (fs : List FlowModel) → Each Rated fs → rates_in p c fs ≡ 0 → windowed p q c w fs ≡ 0
 unfolding windowed rates_in
 no_window p q c w [] rated none = refl
 no_window p q c w (f ∷ fs) rated none =
@@ -67,7 +67,7 @@ no_window p q c w (f ∷ fs) rated none =
         absurd (omega (arith, rated.0))
 
 -- a regulator's need by the sums that are kept
-class-kept : (p q c : ℕ) (fs : List FlowModel) → All Classed fs → All Rated fs → rates p fs ≤ den → c ≤ 7 →
+class-kept : (p q c : ℕ) (fs : List FlowModel) → Each Classed fs → Each Rated fs → rates p fs ≤ den → c ≤ 7 →
     class_need (load_of p no_load fs) (pair_of p q no_load fs) c ≡ regulator_need p q c fs
 class-kept p q c fs low rated room small =
     elim (cases_lt (before p c fs) den) [
@@ -93,14 +93,14 @@ sized_of p t (f ∷ fs) sized = sized_of p (cond (over p f) (load_with t f) t) f
     by false = sized
 
 -- what is set aside for a port
-port-kept : (q : ℕ) (fs : List FlowModel) → All Classed fs → total (load_of q no_load fs).bursts ≡ port_need q fs
+port-kept : (q : ℕ) (fs : List FlowModel) → Each Classed fs → total (load_of q no_load fs).bursts ≡ port_need q fs
 port-kept q fs low =
     let size = (sized_of q no_load fs sized_none).bursts in
     let all : take 8 (load_of q no_load fs).bursts ≡ (load_of q no_load fs).bursts = take_all 8 (load_of q no_load fs).bursts (omega arith) in
     sym (ap total all) ∙ kept-bursts q 7 no_load fs sized_none low ∙ ap (λ n. n + bursts q 7 fs) (total-none 8 8) ∙ zero-add (bursts q 7 fs)
 
 module _ (loads : List LoadModel) (pairs : List (List LoadModel)) (fs : List FlowModel) (kept : Kept loads fs) (between : PairsOf pairs fs)
-    (low : All Classed fs) (rated : All Rated fs) (room : (p : ℕ) → rates p fs ≤ den) where
+    (low : Each Classed fs) (rated : Each Rated fs) (room : (p : ℕ) → rates p fs ≤ den) where
   classes_kept : (p q n : ℕ) → n ≤ 8 → class_needs (load_of p no_load fs) (pair_of p q no_load fs) n ≡ class_plan p q fs n
   unfolding class_needs class_plan
   classes_kept p q zero few = refl

@@ -1,6 +1,6 @@
 -- The memory of a switch by the flows alone, and that the sums that are kept give it. Assumes nothing.
 use Rattle.std.specs.Prelude.{◌≡◌, ℕ, zero, suc, ◌+◌, ◌≤◌, cond, List, [], ◌∷◌, ◌==◌}
-use Rattle.std.specs.List.{AllByRecursion as All}
+use Rattle.std.specs.List.{AllByRecursion as Each}
 use Rattle.flows.specs.Net.{NetModel, port_at}
 use Rattle.flows.specs.Flow.{FlowModel}
 use Rattle.promises.specs.Promises.{den, rates, port_need, regulator_need}
@@ -35,5 +35,5 @@ Rated f = 1 ≤ f.rate
 abbrev pub NeedsKept : Type 0
 NeedsKept =
     (net : NetModel) (loads : List LoadModel) (pairs : List (List LoadModel)) (fs : List FlowModel) → Kept loads fs → PairsOf pairs fs →
-    All Classed fs → All Rated fs → ((p : ℕ) → rates p fs ≤ den) →
+    Each Classed fs → Each Rated fs → ((p : ℕ) → rates p fs ≤ den) →
     (s n : ℕ) → n ≤ 64 → switch_needs net loads pairs s n ≡ switch_plan net s fs n

@@ -1,6 +1,6 @@
 -- The packets of a pipe in their order. Assumes nothing.
 use Rattle.std.proofs.Common.{◌≡◌, ℕ, ◌+◌, ◌*◌, ◌<◌, ◌≤◌, ◌⊎◌, List, [], ◌∷◌, ◌++◌, length, get_or, set, Some, None, sym, ap, subst, inl, inr, arith}
-use Rattle.std.specs.List.{AllByRecursion as All}
+use Rattle.std.specs.List.{AllByRecursion as Each}
 use Rattle.std.proofs.ByRecursion.{All-push}
 use Rattle.flows.specs.Flow.{FlowModel}
 use Rattle.promises.specs.Promises.{den}
@@ -15,7 +15,7 @@ one_weaker P Q (g ∷ gs) weaker (inl here) = inl (weaker g here)
 one_weaker P Q (g ∷ gs) weaker (inr there) = inr (one_weaker P Q gs weaker there)
 
 -- what follows from one of these, and holds of all
-pub one_all : (P Q : Passed → Type 0) (C : Type 0) (gs : List Passed) → ((g : Passed) → P g → Q g → C) → All P gs → OneOf Q gs → C
+pub one_all : (P Q : Passed → Type 0) (C : Type 0) (gs : List Passed) → ((g : Passed) → P g → Q g → C) → Each P gs → OneOf Q gs → C
 one_all P Q C [] then all one = absurd one
 one_all P Q C (g ∷ gs) then all (inl here) = then g all.0 here
 one_all P Q C (g ∷ gs) then all (inr there) = one_all P Q C gs then all.1 there
@@ -82,13 +82,13 @@ Away w = w.came ≡ None
 -- those that have come stand in front
 abbrev pub Front : List Packet → Type 0
 Front [] = Unit {0}
-Front (w ∷ ws) = (Away w → All Away ws) × Front ws
+Front (w ∷ ws) = (Away w → Each Away ws) × Front ws
 
 pub front_push : (ws : List Packet) (w : Packet) → Away w → Front ws → Front (ws ++ w ∷ [])
 front_push [] w away front = ((λ _. tt), tt)
 front_push (v ∷ ws) w away front = ((λ none. All-push Away ws w (front.0 none) away), front_push ws w away front.1)
 
-pub front_comes : (before : List Packet) (t : ℕ) (w : Packet) (back : List Packet) → All HasCome before →
+pub front_comes : (before : List Packet) (t : ℕ) (w : Packet) (back : List Packet) → Each HasCome before →
     Front (before ++ w ∷ back) → Front (before ++ arrived t w ∷ back)
 front_comes [] t w back come front = ((λ none. let z : ◌≡◌ {A = ℕ} 0 1 = cc in absurd (omega arith)), front.1)
 front_comes (v ∷ before) t w back come front =

@@ -1,7 +1,7 @@
 -- A regulator costs nothing. Assumes nothing.
 use Rattle.std.proofs.Common.{◌≡◌, ℕ, ◌+◌, ◌<◌, ◌≤◌, List, [], ◌∷◌, ◌++◌, Some, None, Option, sym, refl, subst, inl, inr, arith}
-use Rattle.std.specs.List.{AllByRecursion as All}
-use Rattle.std.proofs.ByRecursion.{All-weaker}
+use Rattle.std.specs.List.{AllByRecursion as Each}
+use Rattle.std.proofs.ByRecursion.{Each-weaker}
 use Rattle.flows.specs.Flow.{FlowModel}
 use Rattle.pipe.specs.Pipe.{Packet, Passed, PipeModel, Step, enters, comes, passes, ticks, Run, begins, goes, ticked}
 use Rattle.pipe.specs.Laws.{OneOf, NoLonger, CostsNothing, WithinBound, NobodyDue, NextRegular, PipeLaws}
@@ -34,7 +34,7 @@ CameIn bound g = g.came ≤ g.packet.sent + bound
 abbrev PassedIn : ℕ → Passed → Type 0
 PassedIn bound g = g.at ≤ g.packet.sent + bound
 
-passed_in : (bound : ℕ) (gs : List Passed) → Costless gs → All (CameIn bound) gs → All (PassedIn bound) gs
+passed_in : (bound : ℕ) (gs : List Passed) → Costless gs → Each (CameIn bound) gs → Each (PassedIn bound) gs
 passed_in bound [] costless came = tt
 passed_in bound (g ∷ gs) costless came = (
   one_all (CameIn bound) (NoLonger g.at g.packet.sent) (PassedIn bound g) (g ∷ gs) (λ m c n. omega (arith, c, n)) came costless.0,
@@ -45,14 +45,14 @@ passed_in bound (g ∷ gs) costless came = (
 abbrev HasTime : ℕ → ℕ → Packet → Type 0
 HasTime bound now w = (t : ℕ) → w.came ≡ Some t → now ≤ w.sent + bound
 
-after_first : (bound now low : ℕ) (ws : List Packet) (high : ℕ) → now ≤ low + bound → Rising low ws high → All (HasTime bound now) ws
+after_first : (bound now low : ℕ) (ws : List Packet) (high : ℕ) → now ≤ low + bound → Rising low ws high → Each (HasTime bound now) ws
 after_first bound now low [] high soon rising = tt
 after_first bound now low (w ∷ ws) high soon rising =
     let more = rising.0 in
     ((λ t come. omega arith), after_first bound now w.sent ws high (omega arith) rising.1)
 
 waits_in : (bound now : ℕ) (ws : List Packet) (gs : List Passed) (high : ℕ) → Rising 0 ws high → Front ws → Due now gs ws →
-    All (λ w. (t : ℕ) → w.came ≡ Some t → t ≤ w.sent + bound) ws → All (CameIn bound) gs → All (HasTime bound now) ws
+    Each (λ w. (t : ℕ) → w.came ≡ Some t → t ≤ w.sent + bound) ws → Each (CameIn bound) gs → Each (HasTime bound now) ws
 waits_in bound now [] gs high rising front due came gone = tt
 waits_in bound now (w ∷ ws) gs high rising front due came gone = (first, rest w.came refl)
   where
@@ -63,9 +63,9 @@ waits_in bound now (w ∷ ws) gs high rising front due came gone = (first, rest 
           | inr one ↦ one_all (CameIn bound) (NoLonger now w.sent) (now ≤ w.sent + bound) gs (λ m c n. omega (arith, c, n)) gone one
         ]
 
-    rest : (o : Option ℕ) → w.came ≡ o → All (HasTime bound now) ws
+    rest : (o : Option ℕ) → w.came ≡ o → Each (HasTime bound now) ws
     rest None away =
-        All-weaker Away (HasTime bound now) (λ v none t come. let z : ◌≡◌ {A = ℕ} 0 1 = cc in absurd (omega arith)) ws (front.0 away)
+        Each-weaker Away (HasTime bound now) (λ v none t come. let z : ◌≡◌ {A = ℕ} 0 1 = cc in absurd (omega arith)) ws (front.0 away)
     rest (Some t) come = after_first bound now w.sent ws high (first t come) rising.1
 
 pub within_bound : WithinBound
@@ -77,7 +77,7 @@ within_bound fs s bound run came =
 
 pub nobody_due : NobodyDue
 nobody_due fs s bound run came may =
-    All-weaker (HasTime bound (s.now + 1)) (λ w. (t : ℕ) → w.came ≡ Some t → s.now < w.sent + bound) (λ w time t come. omega (arith, time t come))
+    Each-weaker (HasTime bound (s.now + 1)) (λ w. (t : ℕ) → w.came ≡ Some t → s.now < w.sent + bound) (λ w time t come. omega (arith, time t come))
     s.pipe (within_bound fs (ticked s) bound (goes run (ticks may refl)) (record { waits = came.waits; gone = came.gone })).1
 
 pub next-regular : NextRegular

@@ -1,6 +1,6 @@
 -- Laws of a pipe with a regulator at its end. Assumes nothing.
 use Rattle.std.specs.Prelude.{◌≡◌, ℕ, ◌+◌, ◌*◌, ◌<◌, ◌≤◌, ◌⊎◌, List, [], ◌∷◌, ◌++◌, Some, slice_index_or}
-use Rattle.std.specs.List.{AllByRecursion as All}
+use Rattle.std.specs.List.{AllByRecursion as Each}
 use Rattle.flows.specs.Flow.{FlowModel}
 use Rattle.promises.specs.Promises.{den}
 use Rattle.port.specs.Port.{full, flow_at}
@@ -25,21 +25,21 @@ CostsNothing =
 
 -- every packet that has come did so within so many ticks of its pass at the first port
 pub record CameWithin (bound : ℕ) (s : PipeModel) : Type 0 where
-  pub waits : All (λ w. (t : ℕ) → w.came ≡ Some t → t ≤ w.sent + bound) s.pipe
-  pub gone : All (λ g. g.came ≤ g.packet.sent + bound) s.passed
+  pub waits : Each (λ w. (t : ℕ) → w.came ≡ Some t → t ≤ w.sent + bound) s.pipe
+  pub gone : Each (λ g. g.came ≤ g.packet.sent + bound) s.passed
 
 -- then every packet that has passed at the next port did so within as many, and every packet that waits in the regulator has its time still
 abbrev pub WithinBound : Type 0
 WithinBound =
     (fs : List FlowModel) (s : PipeModel) (bound : ℕ) → Run fs s → CameWithin bound s →
-    All (λ g. g.at ≤ g.packet.sent + bound) s.passed ×
-    All (λ w. (t : ℕ) → w.came ≡ Some t → s.now ≤ w.sent + bound) s.pipe
+    Each (λ g. g.at ≤ g.packet.sent + bound) s.passed ×
+    Each (λ w. (t : ℕ) → w.came ≡ Some t → s.now ≤ w.sent + bound) s.pipe
 
 -- and where the tick may end, it has more than this tick
 abbrev pub NobodyDue : Type 0
 NobodyDue =
     (fs : List FlowModel) (s : PipeModel) (bound : ℕ) → Run fs s → CameWithin bound s → MayTick fs s →
-    All (λ w. (t : ℕ) → w.came ≡ Some t → s.now < w.sent + bound) s.pipe
+    Each (λ w. (t : ℕ) → w.came ≡ Some t → s.now < w.sent + bound) s.pipe
 
 -- no flow's burst lacks more at the next port than all of it
 abbrev pub NextRegular : Type 0

@@ -1,6 +1,6 @@
 -- The pipe from one port to the next in one class: what has passed at the first and not yet at the second. Assumes nothing.
 use Rattle.std.specs.Prelude.{◌≡◌, ℕ, ◌+◌, ◌*◌, ◌<◌, ◌≤◌, List, [], ◌∷◌, ◌++◌, map, length, Some, None, Option, slice_index_or, slice_set}
-use Rattle.std.specs.List.{AllByRecursion as All}
+use Rattle.std.specs.List.{AllByRecursion as Each}
 use Rattle.flows.specs.Flow.{FlowModel}
 use Rattle.promises.specs.Promises.{den}
 use Rattle.port.specs.Port.{Packet as Entry, Level, full, flow_at, deficit_at}
@@ -69,7 +69,7 @@ HasCome w = (t : ℕ) × (w.came ≡ Some t)
 -- The first packet that has not come may come: none overtakes another on the way.
 pub record MayCome (s : PipeModel) (front : List Packet) (w : Packet) (back : List Packet) : Type 0 where
   pub stands : s.pipe ≡ front ++ w ∷ back
-  pub first : All HasCome front
+  pub first : Each HasCome front
   pub away : w.came ≡ None
 
 -- it waits in the regulator from now on

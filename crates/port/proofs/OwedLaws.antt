@@ -1,7 +1,7 @@
 -- Sums of deficits over the flows of a port. Assumes nothing.
 use Rattle.std.proofs.Common.{◌≡◌, ℕ, zero, suc, ◌+◌, ◌-◌, ◌*◌, ◌<◌, ◌≤◌, Bool, true, false, cond, ◌&&◌, eqb, ltb, List, [], ◌∷◌, map, length, get_or, set, refl, inl, inr, mul-le-mul_left, mul-zero, mul-one, mul-add, arith}
 use native.Mathlib.Nat.{sub_self}
-use Rattle.std.specs.List.{AllByRecursion as All}
+use Rattle.std.specs.List.{AllByRecursion as Each}
 use Rattle.std.proofs.lemmas.Bool.{cases_Bool, cases_order, lt-ltb, le-ltb, le-leb, lt-leb, eq-eqb, ne_eqb}
 use Rattle.flows.specs.Flow.{FlowModel}
 use Rattle.promises.specs.Promises.{den, over, before, bursts, long}
@@ -126,7 +126,7 @@ long_holds p c (suc k) (f ∷ fs) known on above =
     omega arith
 
 -- a flow's class has a rate
-pub rates_hold : (p k : ℕ) (fs : List FlowModel) → All Rated fs → k < length fs → over p (flow_at fs k) ≡ true →
+pub rates_hold : (p k : ℕ) (fs : List FlowModel) → Each Rated fs → k < length fs → over p (flow_at fs k) ≡ true →
     1 ≤ rates_in p (flow_at fs k).class fs
 unfolding rates_in
 rates_hold p k [] rated known on = absurd (omega arith)

@@ -1,6 +1,6 @@
 -- A pass keeps what every step keeps. Assumes nothing.
 use Rattle.std.proofs.Common.{◌≡◌, ℕ, suc, ◌+◌, ◌-◌, ◌*◌, ◌<◌, ◌≤◌, true, List, [], ◌∷◌, ◌++◌, length, get_or, set, Option, sym, refl, ap, ◌∙◌, subst, inl, inr, arith, length-set, get_or-set_other, get_or-set_same}
-use Rattle.std.specs.List.{AllByRecursion as All}
+use Rattle.std.specs.List.{AllByRecursion as Each}
 use Rattle.std.proofs.ByRecursion.{All-get_or, All-push}
 use Rattle.std.proofs.lemmas.Bool.{cases_lt, cases_order, cases_eq}
 use Rattle.flows.specs.Flow.{FlowModel}
@@ -82,11 +82,11 @@ module _ (p : ℕ) (fs : List FlowModel) (within : Within p fs) (now : ℕ) (qs 
           eight = length-set qs class queue ∙ kept.eight;
           proper = λ d. elim (cases_eq d class) [
             | inl is ↦
-                subst (λ j. All (Proper p fs j) (queue_of qs' j)) (sym is)
-                (subst (λ q. All (Proper p fs class) q) (sym same)
+                subst (λ j. Each (Proper p fs j) (queue_of qs' j)) (sym is)
+                (subst (λ q. Each (Proper p fs class) q) (sym same)
                 (All-push (Proper p fs class) (queue_of qs class) packet (kept.proper class)
                 (record { known = known; crosses = crosses; class = refl; some = some; short = short })))
-            | inr other ↦ subst (λ q. All (Proper p fs d) q) (sym (get_or-set_other qs class d queue [] other)) (kept.proper d)
+            | inr other ↦ subst (λ q. Each (Proper p fs d) q) (sym (get_or-set_other qs class d queue [] other)) (kept.proper d)
           ];
           capped = capped;
           waits = waits;

@@ -1,6 +1,6 @@
 -- A port keeps its promise, and its queues keep within what they need. Assumes nothing.
 use Rattle.std.proofs.Common.{ℕ, ◌+◌, ◌<◌, List, ◌++◌, length, Some, None, Option, sym, refl, ap, ◌∙◌, subst, add-one, arith}
-use Rattle.std.specs.List.{AllByRecursion as All}
+use Rattle.std.specs.List.{AllByRecursion as Each}
 use Rattle.std.proofs.ByRecursion.{All-get_or}
 use Rattle.flows.specs.Flow.{FlowModel}
 use Rattle.promises.specs.Laws.{Classed}
@@ -50,7 +50,7 @@ nobody_late p c fs s within run =
     let kept = run-kept p fs s within run in
     (leaves s.sending kept.sends, line_served p fs s.now c _ s.levels (queue_of s.queues c) within kept.capped (kept.proper c) (kept.lines c))
   where
-    leaves : (o : Option Sending) → InTime p fs s.now o → All (Punctual p fs) (leaving o)
+    leaves : (o : Option Sending) → InTime p fs s.now o → Each (Punctual p fs) (leaving o)
     leaves None due = tt
     leaves (Some x) due = (due.1, tt)
 
@@ -65,8 +65,8 @@ nobody_overtakes p c fs s within (goes {s = r} run (passes k len may after)) =
     ∙ pass_row fs c r.queues r.gone (flow_at fs k).class (record { flow = k; len = len; into = r.now }) r.sending known refl
     ∙ ap (λ ws. ws ++ of_class fs c (record { flow = k; len = len; into = r.now })) (nobody_overtakes p c fs r within run)
 nobody_overtakes p c fs s within (goes {s = r} run (takes d w rest may after)) =
-    let proper : Proper p fs d w × All (Proper p fs d) rest =
-    subst (λ q. All (Proper p fs d) q) may.first ((run-kept p fs r within run).proper d) in
+    let proper : Proper p fs d w × Each (Proper p fs d) rest =
+    subst (λ q. Each (Proper p fs d) q) may.first ((run-kept p fs r within run).proper d) in
     ap (λ x. line_of fs c x) after
     ∙ take_row fs c r.queues r.gone d w rest (r.now + w.len) (held d w rest r.queues may.first) may.first proper.0.class
     ∙ ap (λ o. gone_of fs c r.gone ++ (gone_of fs c (leaving o) ++ queue_of r.queues c)) (sym may.free)

@@ -1,6 +1,6 @@
 -- A take keeps what every step keeps. Assumes nothing.
 use Rattle.std.proofs.Common.{◌≡◌, ℕ, zero, suc, ◌+◌, ◌-◌, ◌*◌, ◌/◌, ◌<◌, ◌≤◌, List, [], ◌∷◌, length, set, Some, None, Option, sym, ap, ◌∙◌, subst, inl, inr, mul-le-mul_right, mul_comm, mul-add, arith, length-set, get_or-set_other, get_or-set_same}
-use Rattle.std.specs.List.{AllByRecursion as All}
+use Rattle.std.specs.List.{AllByRecursion as Each}
 use Rattle.std.proofs.lemmas.Nat.{le-div}
 use Rattle.std.proofs.lemmas.Bool.{cases_lt, cases_order, cases_eq}
 use Rattle.flows.specs.Flow.{FlowModel}
@@ -51,7 +51,7 @@ served p fs now c off ls w within capped proper line =
 
 -- so does each of a line
 pub line_served : (p : ℕ) (fs : List FlowModel) (now c off : ℕ) (ls : List Level) (ws : List Packet) → Within p fs → Capped fs ls →
-    All (Proper p fs c) ws → Line (den - before p c fs) now (bound p c now fs ls) off ws → All (HasTime p fs now) ws
+    Each (Proper p fs c) ws → Line (den - before p c fs) now (bound p c now fs ls) off ws → Each (HasTime p fs now) ws
 line_served p fs now c off ls [] within capped proper line = tt
 line_served p fs now c off ls (w ∷ ws) within capped proper line = (
   omega (arith, served p fs now c off ls w within capped proper.0 line.0),
@@ -68,8 +68,8 @@ module _ (p : ℕ) (fs : List FlowModel) (within : Within p fs) (now : ℕ) (qs 
     abbrev o' : Option Sending
     o' = Some (record { packet = w; until = now + w.len })
 
-    proper : Proper p fs c w × All (Proper p fs c) rest
-    proper = subst (λ q. All (Proper p fs c) q) first (kept.proper c)
+    proper : Proper p fs c w × Each (Proper p fs c) rest
+    proper = subst (λ q. Each (Proper p fs c) q) first (kept.proper c)
 
     line : LineOf p fs now qs None ls c (w ∷ rest)
     line = subst (λ q. LineOf p fs now qs None ls c q) first (kept.lines c)
@@ -89,8 +89,8 @@ module _ (p : ℕ) (fs : List FlowModel) (within : Within p fs) (now : ℕ) (qs 
         record {
           eight = length-set qs c rest ∙ kept.eight;
           proper = λ d. elim (cases_eq d c) [
-            | inl is ↦ subst (λ k. All (Proper p fs k) (queue_of qs' k)) (sym is) (subst (λ q. All (Proper p fs c) q) (sym same) proper.1)
-            | inr other ↦ subst (λ q. All (Proper p fs d) q) (sym (get_or-set_other qs c d rest [] other)) (kept.proper d)
+            | inl is ↦ subst (λ k. Each (Proper p fs k) (queue_of qs' k)) (sym is) (subst (λ q. Each (Proper p fs c) q) (sym same) proper.1)
+            | inr other ↦ subst (λ q. Each (Proper p fs d) q) (sym (get_or-set_other qs c d rest [] other)) (kept.proper d)
           ];
           capped = kept.capped;
           waits = λ d. elim (cases_lt c (suc d)) [

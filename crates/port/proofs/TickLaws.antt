@@ -1,6 +1,6 @@
 -- What every step of a port keeps, and that a tick does. Assumes nothing.
 use Rattle.std.proofs.Common.{◌≡◌, ℕ, zero, suc, ◌+◌, ◌-◌, ◌*◌, ◌<◌, ◌≤◌, Bool, true, false, cond, eqb, List, [], ◌∷◌, map, length, replicate, Some, None, Option, sym, refl, subst, mul-one, mul-add, arith}
-use Rattle.std.specs.List.{AllByRecursion as All}
+use Rattle.std.specs.List.{AllByRecursion as Each}
 use Rattle.std.proofs.lemmas.Bool.{eqb-true, eqb-false}
 use Rattle.flows.specs.Flow.{FlowModel}
 use Rattle.promises.specs.Promises.{den, over, before, long}
@@ -39,12 +39,12 @@ LineOf p fs now qs o ls c q = Line (den - before p c fs) now (bound p c now fs l
 -- what every step keeps: the sum of all that is to be sent, and the same for each packet that waits
 pub record Kept (p : ℕ) (fs : List FlowModel) (now : ℕ) (qs : List (List Packet)) (o : Option Sending) (ls : List Level) (gs : List Gone) : Type 0 where
   pub eight : length qs ≡ 8
-  pub proper : (c : ℕ) → All (Proper p fs c) (queue_of qs c)
+  pub proper : (c : ℕ) → Each (Proper p fs c) (queue_of qs c)
   pub capped : Capped fs ls
   pub waits : (c : ℕ) → den * (waiting_below (suc c) qs + left_at now o) ≤ den * long p c fs + owed p (suc c) now fs ls
   pub lines : (c : ℕ) → LineOf p fs now qs o ls c (queue_of qs c)
   pub sends : InTime p fs now o
-  pub punctual : All (Punctual p fs) gs
+  pub punctual : Each (Punctual p fs) gs
 
 -- the empty state
 pub none_in : (n c : ℕ) → queue_of (replicate n []) c ≡ []
@@ -56,7 +56,7 @@ pub empty-kept : (p : ℕ) (fs : List FlowModel) → Kept p fs 0 (replicate 8 []
 empty-kept p fs =
     record {
       eight = refl;
-      proper = λ c. subst (λ q. All (Proper p fs c) q) (sym (none_in 8 c)) tt;
+      proper = λ c. subst (λ q. Each (Proper p fs c) q) (sym (none_in 8 c)) tt;
       capped = capped_empty fs;
       waits = λ c. let none = waiting_none (suc c) (replicate 8 []) (λ d h. none_in 8 d) in omega arith;
       lines = λ c. subst (λ q. LineOf p fs 0 (replicate 8 []) None (map (λ _. full) fs) c q) (sym (none_in 8 c)) tt;
@@ -85,7 +85,7 @@ tick-moves free rate now off off' x y whole less fall = omega (arith, mul-add fr
 module _ (p : ℕ) (fs : List FlowModel) (within : Within p fs) (now : ℕ) (qs : List (List Packet)) (ls : List Level) (gs : List Gone) where
   -- a tick in which the port sends
   sent : (o o' : Option Sending) (gs' : List Gone) → Kept p fs now qs o ls gs → left_at (now + 1) o' + 1 ≡ left_at now o →
-      InTime p fs (now + 1) o' → All (Punctual p fs) gs' → Kept p fs (now + 1) qs o' ls gs'
+      InTime p fs (now + 1) o' → Each (Punctual p fs) gs' → Kept p fs (now + 1) qs o' ls gs'
   sent o o' gs' kept less sends punctual =
       record {
         eight = kept.eight;

@@ -1,6 +1,6 @@
 -- Laws of one port. Assumes nothing.
 use Rattle.std.specs.Prelude.{◌≡◌, ℕ, ◌+◌, ◌≤◌, ◌⊎◌, List}
-use Rattle.std.specs.List.{AllByRecursion as All}
+use Rattle.std.specs.List.{AllByRecursion as Each}
 use Rattle.flows.specs.Flow.{FlowModel}
 use Rattle.promises.specs.Promises.{den, rates, promise, queue_need}
 use Rattle.promises.specs.Laws.{Classed}
@@ -10,8 +10,8 @@ use Rattle.port.specs.Examples.{PromiseMet}
 
 -- flows that do not ask more of port p than all of it
 pub record Within (p : ℕ) (fs : List FlowModel) : Type 0 where
-  pub classed : All Classed fs
-  pub rated : All Rated fs
+  pub classed : Each Classed fs
+  pub rated : Each Rated fs
   pub room : rates p fs ≤ den
 
 -- its last bit left within what port p promises its class
@@ -24,13 +24,13 @@ HasTime p fs now w = now + w.len ≤ w.into + promise p (flow_at fs w.flow).clas
 
 -- every packet that has left did so within the promise
 abbrev pub PortPunctual : Type 0
-PortPunctual = (p : ℕ) (fs : List FlowModel) (s : PortModel) → Within p fs → Run p fs s → All (Punctual p fs) s.gone
+PortPunctual = (p : ℕ) (fs : List FlowModel) (s : PortModel) → Within p fs → Run p fs s → Each (Punctual p fs) s.gone
 
 -- none that has not left is late: what is being sent will leave in time, and what waits has its time still
 abbrev pub NobodyLate : Type 0
 NobodyLate =
     (p c : ℕ) (fs : List FlowModel) (s : PortModel) → Within p fs → Run p fs s →
-    All (Punctual p fs) (leaving s.sending) × All (HasTime p fs s.now) (queue_of s.queues c)
+    Each (Punctual p fs) (leaving s.sending) × Each (HasTime p fs s.now) (queue_of s.queues c)
 
 -- at every moment what waits in classes up to c keeps within what these need
 abbrev pub QueuesBounded : Type 0

@@ -1,7 +1,7 @@
 -- Sums over at most 256 flows fit 32 bits. Assumes nothing.
 use Rattle.std.proofs.Common.{◌≡◌, ℕ, zero, suc, ◌+◌, ◌*◌, ◌<◌, ◌≤◌, Bool, true, false, cond, ltb, List, [], ◌∷◌, length, get_or, set, replicate, Some, sym, refl, ap, ◌∙◌, subst, arith}
-use Rattle.std.specs.List.{AllByRecursion as All}
-use Rattle.std.proofs.ByRecursion.{All-weaker}
+use Rattle.std.specs.List.{AllByRecursion as Each}
+use Rattle.std.proofs.ByRecursion.{Each-weaker}
 use Rattle.std.proofs.lemmas.List.{get_or-set_other}
 use Rattle.std.proofs.lemmas.Bool.{and_from, lt-ltb}
 use Rattle.flows.specs.Flow.{FlowModel, Once}
@@ -46,7 +46,7 @@ within-asked : (b : Bool) (n : ℕ) (t : LoadModel) (f : FlowModel) → Bounded 
 within-asked true n t f bounded within = within_with n t f bounded within
 within-asked false n t f bounded within = within_more n (n + 1) t (omega arith) within
 
-load_within : (p n : ℕ) (t : LoadModel) (fs : List FlowModel) → All Bounded fs → Within n t → Within (n + length fs) (load_of p t fs)
+load_within : (p n : ℕ) (t : LoadModel) (fs : List FlowModel) → Each Bounded fs → Within n t → Within (n + length fs) (load_of p t fs)
 unfolding load_of
 load_within p n t [] bounded within = within_more n (n + 0) t (omega arith) within
 load_within p n t (f ∷ fs) bounded within =
@@ -54,7 +54,7 @@ load_within p n t (f ∷ fs) bounded within =
     let rest = load_within p (n + 1) next fs bounded.1 (within-asked (over p f) n t f bounded.0 within) in
     within_more (n + 1 + length fs) (n + length (f ∷ fs)) (load_of p next fs) (omega arith) rest
 
-pair_within : (p q n : ℕ) (t : LoadModel) (fs : List FlowModel) → All Bounded fs → Within n t → Within (n + length fs) (pair_of p q t fs)
+pair_within : (p q n : ℕ) (t : LoadModel) (fs : List FlowModel) → Each Bounded fs → Within n t → Within (n + length fs) (pair_of p q t fs)
 unfolding pair_of
 pair_within p q n t [] bounded within = within_more n (n + 0) t (omega arith) within
 pair_within p q n t (f ∷ fs) bounded within =
@@ -70,11 +70,11 @@ room t f bounded within =
     (lt-ltb _ _ (omega (arith, within.rates f.class, bounded.1)))
 
 -- a fact that follows from two
-all_zip : {X : Type 0} (P Q R : X → Type 0) → ((x : X) → P x → Q x → R x) → (xs : List X) → All P xs → All Q xs → All R xs
+all_zip : {X : Type 0} (P Q R : X → Type 0) → ((x : X) → P x → Q x → R x) → (xs : List X) → Each P xs → Each Q xs → Each R xs
 all_zip P Q R both [] ps qs = tt
 all_zip P Q R both (x ∷ xs) ps qs = (both x ps.0 qs.0, all_zip P Q R both xs ps.1 qs.1)
 
-along_fits : (f : FlowModel) (ps : List ℕ) (ts : List LoadModel) → Bounded f → Once ps → All (λ p. Within 255 (get_or ts p no_load)) ps →
+along_fits : (f : FlowModel) (ps : List ℕ) (ts : List LoadModel) → Bounded f → Once ps → Each (λ p. Within 255 (get_or ts p no_load)) ps →
     (us : List LoadModel) × (loads_with f ps ts ≡ Some us)
 unfolding loads_with
 along_fits f [] ts bounded once within = (ts, refl)
@@ -88,7 +88,7 @@ along_fits f (p ∷ ps) ts bounded once within =
     next = set ts p (load_with (get_or ts p no_load) f)
 
     -- the other ports of the road are as they were
-    still : All (λ r. Within 255 (get_or next r no_load)) ps
+    still : Each (λ r. Within 255 (get_or next r no_load)) ps
     still =
         all_zip (λ r. r ≡ p → ⊥) (λ r. Within 255 (get_or ts r no_load)) (λ r. Within 255 (get_or next r no_load))
         (λ r differs h. subst (Within 255) (sym (get_or-set_other ts p r (load_with (get_or ts p no_load) f) no_load differs)) h) ps once.0 within.1
@@ -96,7 +96,7 @@ along_fits f (p ∷ ps) ts bounded once within =
 pub sums_fit_lem : SumsFit
 sums_fit_lem ts fs f bounded fits once known few kept =
     along_fits f f.road ts fits once
-    (All-weaker (λ p. p < 64) (λ p. Within 255 (get_or ts p no_load))
+    (Each-weaker (λ p. p < 64) (λ p. Within 255 (get_or ts p no_load))
     (λ p h. subst (Within 255) (sym (kept p h)) (within_more (0 + length fs) 255 _ (omega arith) (load_within p 0 no_load fs bounded within_none)))
     f.road known)
 
@@ -104,7 +104,7 @@ sums_fit_lem ts fs f bounded fits once known few kept =
 abbrev FromWithin : List (List LoadModel) → ℕ → Type 0
 FromWithin tables p = (q : ℕ) → q < 64 → Within 255 (pair_at tables p q)
 
-between_fits : (f : FlowModel) (ps : List ℕ) (tables : List (List LoadModel)) → Bounded f → Once ps → All (λ p. p < 64) ps → All (FromWithin tables) ps →
+between_fits : (f : FlowModel) (ps : List ℕ) (tables : List (List LoadModel)) → Bounded f → Once ps → Each (λ p. p < 64) ps → Each (FromWithin tables) ps →
     (us : List (List LoadModel)) × (pairs_with f ps tables ≡ Some us)
 unfolding pairs_with
 between_fits f [] tables bounded once known within = (tables, refl)
@@ -119,7 +119,7 @@ between_fits f (p ∷ q ∷ ps) tables bounded once known within =
     next = put_pair tables p q (load_with (pair_at tables p q) f)
 
     -- what goes on from the other ports of the road is as it was
-    still : All (FromWithin next) (q ∷ ps)
+    still : Each (FromWithin next) (q ∷ ps)
     still =
         all_zip (λ r. r ≡ p → ⊥) (FromWithin tables) (FromWithin next)
         (λ r differs h s port.
@@ -130,7 +130,7 @@ between_fits f (p ∷ q ∷ ps) tables bounded once known within =
 pub pairs_fit_lem : PairsFit
 pairs_fit_lem tables fs f bounded fits once known few kept =
     between_fits f f.road tables fits once known
-    (All-weaker (λ p. p < 64) (FromWithin tables)
+    (Each-weaker (λ p. p < 64) (FromWithin tables)
     (λ p a q b.
     subst (Within 255) (sym (kept p q a b)) (within_more (0 + length fs) 255 _ (omega arith) (pair_within p q 0 no_load fs bounded within_none)))
     f.road known)

@@ -6,7 +6,7 @@ use Rattle.promises.specs.Loads.{LoadModel, no_load, load_with, load_fits, pair_
 use Rattle.promises.specs.Promises.{goes}
 use Rattle.promises.specs.Laws.{Squared, PairsOf, PairsKept}
 use Rattle.flows.specs.Flow.{Once}
-use Rattle.std.specs.List.{AllByRecursion as All}
+use Rattle.std.specs.List.{AllByRecursion as Each}
 use Rattle.std.proofs.lemmas.Bool.{or_from, and_left, ne_eqb, eqb-true, eqb-false, cases_eq, cond-false}
 
 -- the port before i, the port at i, and the rest
@@ -54,7 +54,7 @@ or_nothing true = refl
 or_nothing false = refl
 
 -- no road goes on from a port that is not on it
-goes_apart : (p q : ℕ) (ps : List ℕ) → All (λ r. r ≡ p → ⊥) ps → goes p q ps ≡ false
+goes_apart : (p q : ℕ) (ps : List ℕ) → Each (λ r. r ≡ p → ⊥) ps → goes p q ps ≡ false
 unfolding goes
 goes_apart p q [] all = refl
 goes_apart p q (x ∷ []) all = refl
@@ -93,7 +93,7 @@ module _ (tables : List (List LoadModel)) (a b : ℕ) (t : LoadModel) (squared :
   put_elsewhere p q differs = ap (λ ls. get_or ls q no_load) (get_or-set_other tables a p (set (get_or tables a []) b t) [] differs)
 
 -- what goes between two ports is more where the road goes so, and else as it was
-pairs-places : (f : FlowModel) (ps : List ℕ) (tables us : List (List LoadModel)) → Squared tables → Once ps → All (λ p. p < 64) ps →
+pairs-places : (f : FlowModel) (ps : List ℕ) (tables us : List (List LoadModel)) → Squared tables → Once ps → Each (λ p. p < 64) ps →
     pairs_with f ps tables ≡ Some us →
     Squared us × ((p q : ℕ) → pair_at us p q ≡ cond (goes p q ps) (load_with (pair_at tables p q) f) (pair_at tables p q))
 unfolding pairs_with goes

@@ -1,6 +1,6 @@
 -- Laws of promises. Assumes nothing.
 use Rattle.std.proofs.Common.{◌≡◌, ℕ, zero, suc, ◌+◌, ◌-◌, ◌*◌, ◌/◌, ◌<◌, ◌≤◌, max, Bool, true, false, cond, ◌&&◌, ltb, leb, ◌⊎◌, List, [], ◌∷◌, ◌++◌, length, get_or, take, drop, replicate, Some, None, Option, sym, refl, ap, ◌∙◌, ap₂, inl, inr, zero-add, div-mul-le_self, arith}
-use Rattle.std.specs.List.{AllByRecursion as All}
+use Rattle.std.specs.List.{AllByRecursion as Each}
 use Rattle.std.proofs.lemmas.Nat.{mul-le, le-div}
 use Rattle.std.proofs.lemmas.Bool.{cases_lt, cases_Bool, lt-ltb, le-ltb, le-leb, lt-leb}
 use Rattle.flows.specs.Net.{NetModel, port_at}
@@ -74,7 +74,7 @@ never-shorter p c fs gs f room =
     (den - before p c (fs ++ gs)) (den - before p c (fs ++ f ∷ gs)) (omega arith) (omega arith) (omega arith)
 
 -- bursts of some classes are among those of all
-some-bursts : (p c : ℕ) (fs : List FlowModel) → All Classed fs → bursts p c fs ≤ bursts p 7 fs
+some-bursts : (p c : ℕ) (fs : List FlowModel) → Each Classed fs → bursts p c fs ≤ bursts p 7 fs
 unfolding bursts
 some-bursts p c [] low = omega arith
 some-bursts p c (f ∷ fs) low =

@@ -1,6 +1,6 @@
 -- Sums kept in a table are the sums over the flows. Assumes nothing.
 use Rattle.std.proofs.Common.{◌≡◌, ℕ, zero, suc, ◌+◌, ◌-◌, ◌*◌, ◌/◌, ◌<◌, ◌≤◌, max, Bool, true, false, cond, ◌&&◌, ltb, leb, ◌⊎◌, List, [], ◌∷◌, ◌++◌, length, get_or, take, drop, set, sym, refl, ap, ◌∙◌, ap₂, inl, inr, add-zero, add_assoc, add_comm, zero-add, add-one, arith, length-set}
-use Rattle.std.specs.List.{AllByRecursion as All}
+use Rattle.std.specs.List.{AllByRecursion as Each}
 use Rattle.std.proofs.lemmas.Bool.{cases_lt, cases_Bool, lt-ltb, le-ltb, le-leb, lt-leb}
 use Rattle.flows.specs.Flow.{FlowModel}
 use Rattle.promises.specs.Promises.{over, bursts, before, long}
@@ -73,7 +73,7 @@ ltb_above c a =
       | inr below ↦ rw (le-ltb c a below, lt-leb (c + 1) a (omega arith)) refl
     ]
 
-pub kept-bursts : (p c : ℕ) (t : LoadModel) (fs : List FlowModel) → Sized t → All Classed fs →
+pub kept-bursts : (p c : ℕ) (t : LoadModel) (fs : List FlowModel) → Sized t → Each Classed fs →
     total (take (c + 1) (load_of p t fs).bursts) ≡ total (take (c + 1) t.bursts) + bursts p c fs
 unfolding load_of bursts
 kept-bursts p c t [] sized low = sym (add-zero (total (take (c + 1) t.bursts)))
@@ -91,7 +91,7 @@ kept-bursts p c t (f ∷ fs) sized low = by (over p f) (λ u known. kept-bursts 
         ∙ ap (λ b. T + (given b f.burst + bursts p c fs)) (sym (leb-below f.class c))
     by false more = more t sized ∙ ap (λ n. T + n) (sym (zero-add (bursts p c fs)))
 
-pub kept-rates : (p c : ℕ) (t : LoadModel) (fs : List FlowModel) → Sized t → All Classed fs →
+pub kept-rates : (p c : ℕ) (t : LoadModel) (fs : List FlowModel) → Sized t → Each Classed fs →
     total (take c (load_of p t fs).rates) ≡ total (take c t.rates) + before p c fs
 unfolding load_of before
 kept-rates p c t [] sized low = sym (add-zero (total (take c t.rates)))
@@ -108,7 +108,7 @@ kept-rates p c t (f ∷ fs) sized low = by (over p f) (λ u known. kept-rates p 
         ∙ add_assoc T (given (ltb f.class c) f.rate) (before p c fs)
     by false more = more t sized ∙ ap (λ n. T + n) (sym (zero-add (before p c fs)))
 
-pub kept-longest : (p c : ℕ) (t : LoadModel) (fs : List FlowModel) → Sized t → All Classed fs →
+pub kept-longest : (p c : ℕ) (t : LoadModel) (fs : List FlowModel) → Sized t → Each Classed fs →
     largest (drop (c + 1) (load_of p t fs).longest) ≡ max (largest (drop (c + 1) t.longest)) (long p c fs)
 unfolding load_of long
 kept-longest p c t [] sized low = omega arith

@@ -6,9 +6,9 @@ use Rattle.promises.specs.Promises.{over}
 use Rattle.promises.specs.Laws.{Kept, TableKept}
 use Rattle.flows.specs.Flow.{Once}
 use Rattle.flows.specs.FlowFormat.{passes}
-use Rattle.std.specs.List.{AllByRecursion as All}
+use Rattle.std.specs.List.{AllByRecursion as Each}
 use Rattle.std.proofs.lemmas.List.{get_or-set_same, get_or-set_other, length-set}
-use Rattle.std.proofs.ByRecursion.{All-weaker}
+use Rattle.std.proofs.ByRecursion.{Each-weaker}
 use Rattle.std.proofs.lemmas.Bool.{or_from, ne_eqb, eq-eqb, eqb-true, eqb-false, cases_Bool, cond-false}
 
 module _ (f : FlowModel) (p : ℕ) (ps : List ℕ) (ts : List LoadModel) (t : LoadModel) (whole : Option (List LoadModel)) where
@@ -44,13 +44,13 @@ unfolding load_of
 load_push p t [] f = refl
 load_push p t (g ∷ fs) f = load_push p (cond (over p g) (load_with t g) t) fs f
 
-apart : (p : ℕ) (ps : List ℕ) → All (λ r. r ≡ p → ⊥) ps → passes p ps ≡ false
+apart : (p : ℕ) (ps : List ℕ) → Each (λ r. r ≡ p → ⊥) ps → passes p ps ≡ false
 unfolding passes
 apart p [] all = refl
 apart p (r ∷ ps) all = or_from (eqb p r) (passes p ps) (ne_eqb p r (λ e. all.0 (sym e))) (apart p ps all.1)
 
 -- each port of the road is asked for more, and no other
-along_places : (f : FlowModel) (ps : List ℕ) (ts us : List LoadModel) → Once ps → All (λ p. p < length ts) ps → loads_with f ps ts ≡ Some us →
+along_places : (f : FlowModel) (ps : List ℕ) (ts us : List LoadModel) → Once ps → Each (λ p. p < length ts) ps → loads_with f ps ts ≡ Some us →
     (q : ℕ) → get_or us q no_load ≡ cond (passes q ps) (load_with (get_or ts q no_load) f) (get_or ts q no_load)
 unfolding loads_with passes
 along_places f [] ts us once known e q = let same : us ≡ ts = cc in ap (λ x. get_or x q no_load) same
@@ -63,8 +63,8 @@ along_places f (p ∷ ps) ts us once known e q =
     size : length next ≡ length ts
     size = length-set ts p (load_with (get_or ts p no_load) f)
 
-    still : All (λ r. r < length next) ps
-    still = All-weaker (λ r. r < length ts) (λ r. r < length next) (λ r h. rw size h) ps known.1
+    still : Each (λ r. r < length next) ps
+    still = Each-weaker (λ r. r < length ts) (λ r. r < length next) (λ r h. rw size h) ps known.1
 
     Goal : Bool → Type 0
     Goal t = get_or us q no_load ≡ cond (t || passes q ps) (load_with (get_or ts q no_load) f) (get_or ts q no_load)
@@ -96,7 +96,7 @@ along_places f (p ∷ ps) ts us once known e q =
 
 pub table_kept : TableKept
 table_kept ts us fs f size once known kept got q within =
-    let all : All (λ p. p < length ts) f.road = All-weaker (λ p. p < 64) (λ p. p < length ts) (λ p h. rw size h) f.road known in
+    let all : Each (λ p. p < length ts) f.road = Each-weaker (λ p. p < 64) (λ p. p < length ts) (λ p h. rw size h) f.road known in
     along_places f f.road ts us once all got q
     ∙ ap (λ t. cond (over q f) (load_with t f) t) (kept q within)
     ∙ sym (load_push q no_load fs f)

@@ -1,6 +1,6 @@
 -- What may come into a regulator, from sums that are kept. Assumes nothing.
 use Rattle.std.proofs.Common.{◌≡◌, ℕ, zero, suc, ◌+◌, ◌*◌, ◌<◌, ◌≤◌, Bool, true, false, cond, ◌&&◌, eqb, ◌⊎◌, List, [], ◌∷◌, length, get_or, set, replicate, sym, refl, ap, ◌∙◌, ap₂, inl, inr, add-zero, add-mul, zero-add, arith}
-use Rattle.std.specs.List.{AllByRecursion as All}
+use Rattle.std.specs.List.{AllByRecursion as Each}
 use Rattle.std.proofs.lemmas.List.{get_or-set_same, get_or-set_other}
 use Rattle.std.proofs.lemmas.Bool.{eqb-true, eqb-false}
 use Rattle.flows.specs.Flow.{FlowModel}
@@ -40,7 +40,7 @@ allowed_with t f c w false differs sized low =
     (place_set t.rates f.class c f.rate false differs (omega (arith, sized.rates)) ∙ add-zero (get_or t.rates c 0))
     ∙ sym (add-zero (allowed t c w))
 
-window-from : (p q c w : ℕ) (t : LoadModel) (fs : List FlowModel) → Sized t → All Classed fs →
+window-from : (p q c w : ℕ) (t : LoadModel) (fs : List FlowModel) → Sized t → Each Classed fs →
     allowed (pair_of p q t fs) c w ≡ allowed t c w + windowed p q c w fs
 unfolding pair_of windowed
 window-from p q c w t [] sized low = sym (add-zero (allowed t c w))

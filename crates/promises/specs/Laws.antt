@@ -1,6 +1,6 @@
 -- Laws of promises. Assumes nothing.
 use Rattle.std.specs.Prelude.{◌≡◌, ℕ, ◌+◌, ◌*◌, ◌<◌, ◌≤◌, List, [], ◌∷◌, ◌++◌, length, Some, slice_index, slice_index_or}
-use Rattle.std.specs.List.{AllByRecursion as All}
+use Rattle.std.specs.List.{AllByRecursion as Each}
 use Rattle.flows.specs.Net.{NetModel}
 use Rattle.flows.specs.Flow.{FlowModel, Once}
 use Rattle.promises.specs.Promises.{den, before, promise, dues, due_over, windowed, queue_need, port_need}
@@ -22,7 +22,7 @@ Bounded f = (f.burst ≤ 65535) × (f.rate ≤ den)
 -- the sums that are kept give the promise of the definition
 abbrev pub SumsKept : Type 0
 SumsKept =
-    (p c : ℕ) (fs : List FlowModel) → All Classed fs → c ≤ 7 → before p c fs < den →
+    (p c : ℕ) (fs : List FlowModel) → Each Classed fs → c ≤ 7 → before p c fs < den →
     load_promise (load_of p no_load fs) c ≡ Some (promise p c fs)
 
 -- a table of all ports is what a list of flows asks of each
@@ -32,14 +32,14 @@ Kept ts fs = (q : ℕ) → q < 64 → slice_index_or ts q no_load ≡ load_of q 
 -- and stays so with a flow more, whose road passes no port twice
 abbrev pub TableKept : Type 0
 TableKept =
-    (ts us : List LoadModel) (fs : List FlowModel) (f : FlowModel) → length ts ≡ 64 → Once f.road → All (λ p. p < 64) f.road →
+    (ts us : List LoadModel) (fs : List FlowModel) (f : FlowModel) → length ts ≡ 64 → Once f.road → Each (λ p. p < 64) f.road →
     Kept ts fs → loads_with f f.road ts ≡ Some us → Kept us (fs ++ f ∷ [])
 
 -- the dues by a table that is kept are the dues of the definition, where every port of the road has a promise
 abbrev pub DuesKept : Type 0
 DuesKept =
-    (net : NetModel) (ts : List LoadModel) (fs : List FlowModel) (c t : ℕ) (road : List ℕ) → Kept ts fs → All Classed fs → c ≤ 7 →
-    All (λ p. (p < 64) × (before p c fs < den)) road → loads_dues net ts c t road ≡ Some (dues net fs c t road)
+    (net : NetModel) (ts : List LoadModel) (fs : List FlowModel) (c t : ℕ) (road : List ℕ) → Kept ts fs → Each Classed fs → c ≤ 7 →
+    Each (λ p. (p < 64) × (before p c fs < den)) road → loads_dues net ts c t road ≡ Some (dues net fs c t road)
 
 -- the last of the dues up to each port is the due over the whole road
 abbrev pub LastIsDue : Type 0
@@ -59,26 +59,26 @@ PairsOf tables fs = (p q : ℕ) → p < 64 → q < 64 → pair_at tables p q ≡
 -- and stays so with a flow more
 abbrev pub PairsKept : Type 0
 PairsKept =
-    (tables us : List (List LoadModel)) (fs : List FlowModel) (f : FlowModel) → Squared tables → Once f.road → All (λ p. p < 64) f.road →
+    (tables us : List (List LoadModel)) (fs : List FlowModel) (f : FlowModel) → Squared tables → Once f.road → Each (λ p. p < 64) f.road →
     PairsOf tables fs → pairs_with f f.road tables ≡ Some us → Squared us × PairsOf us (fs ++ f ∷ [])
 
 -- with at most 255 flows asked for, no sum at a port passes 32 bits by a flow more
 abbrev pub SumsFit : Type 0
 SumsFit =
-    (ts : List LoadModel) (fs : List FlowModel) (f : FlowModel) → All Bounded fs → Bounded f → Once f.road → All (λ p. p < 64) f.road →
+    (ts : List LoadModel) (fs : List FlowModel) (f : FlowModel) → Each Bounded fs → Bounded f → Once f.road → Each (λ p. p < 64) f.road →
     length fs ≤ 255 → Kept ts fs → (us : List LoadModel) × (loads_with f f.road ts ≡ Some us)
 
 -- nor does one between two ports
 abbrev pub PairsFit : Type 0
 PairsFit =
-    (tables : List (List LoadModel)) (fs : List FlowModel) (f : FlowModel) → All Bounded fs → Bounded f → Once f.road →
-    All (λ p. p < 64) f.road → length fs ≤ 255 → PairsOf tables fs →
+    (tables : List (List LoadModel)) (fs : List FlowModel) (f : FlowModel) → Each Bounded fs → Bounded f → Once f.road →
+    Each (λ p. p < 64) f.road → length fs ≤ 255 → PairsOf tables fs →
     (us : List (List LoadModel)) × (pairs_with f f.road tables ≡ Some us)
 
 -- what may come into a regulator within a window, from the sums that are kept
 abbrev pub WindowKept : Type 0
 WindowKept =
-    (p q c window : ℕ) (fs : List FlowModel) → All Classed fs → c ≤ 7 →
+    (p q c window : ℕ) (fs : List FlowModel) → Each Classed fs → c ≤ 7 →
     windowed p q c window fs ≡ den * slice_index (pair_of p q no_load fs).bursts c + slice_index (pair_of p q no_load fs).rates c * window
 
 -- one flow more never shortens a promise
@@ -89,7 +89,7 @@ NeverShorter =
 
 -- what is set aside for a port is enough for every class prefix of its queues
 abbrev pub PortCovers : Type 0
-PortCovers = (p c : ℕ) (fs : List FlowModel) → All Classed fs → All Holding fs → queue_need p c fs ≤ port_need p fs
+PortCovers = (p c : ℕ) (fs : List FlowModel) → Each Classed fs → Each Holding fs → queue_need p c fs ≤ port_need p fs
 
 -- all of these, and the worked examples
 pub record PromiseLaws : Type 0 where

@@ -1,6 +1,6 @@
 -- Queues with no packet, and what waits in queues. Assumes nothing.
 use Rattle.std.proofs.Common.{◌≡◌, ℕ, zero, suc, ◌+◌, ◌-◌, ◌<◌, ◌≤◌, min, cond, ltb, ◌⊎◌, List, [], ◌∷◌, length, get_or, replicate, sym, refl, ap, ◌∙◌, subst, inl, inr, zero-add, add-one, arith}
-use Rattle.std.specs.List.{AllByRecursion as All}
+use Rattle.std.specs.List.{AllByRecursion as Each}
 use Rattle.std.proofs.lemmas.List.{get_or-replicate}
 use Rattle.std.proofs.lemmas.Bool.{cases_eq, cases_lt, lt-ltb, le-ltb}
 use Rattle.lines.specs.declared.packet.Packet.{Packet}
@@ -57,7 +57,7 @@ unused_holds cells n is linked =
       line = λ c h. none c h ∙ ap (λ k. chain cells (get_or (replicate 8 0) c 0) k) (sym (zeros c h));
       counted = λ c h. zeros c h ∙ ap ticks_of (sym (none c h));
       ends = λ c h. ap (λ k. last_of (get_or (replicate 8 0) c 0) (places cells (get_or (replicate 8 0) c 0) k)) (zeros c h);
-      short = λ c h. subst (All (λ p. p.length ≤ 255)) (sym (none c h)) tt;
+      short = λ c h. subst (Each (λ p. p.length ≤ 255)) (sym (none c h)) tt;
       once = λ x. zero-add _ ∙ all_once cells n linked x ∙ ap (λ m. cond (ltb x m) 1 0) is;
       whole = zero-add n ∙ is;
     }

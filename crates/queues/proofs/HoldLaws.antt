@@ -1,6 +1,6 @@
 -- What the lent memory holds after a change of one queue and the free cells. Assumes nothing.
 use Rattle.std.proofs.Common.{◌≡◌, ℕ, ◌+◌, ◌-◌, ◌<◌, ◌≤◌, min, cond, ltb, ◌≢◌, List, [], map, length, get_or, set, sym, ap, ◌∙◌, subst, inl, inr, arith}
-use Rattle.std.specs.List.{AllByRecursion as All}
+use Rattle.std.specs.List.{AllByRecursion as Each}
 use Rattle.std.proofs.lemmas.List.{get_or-set_same, get_or-set_other, length-set}
 use Rattle.std.proofs.lemmas.Bool.{cases_eq, cases_lt, lt-ltb, le-ltb}
 use Rattle.lines.specs.declared.packet.Packet.{Packet}
@@ -26,7 +26,7 @@ pub record Moved (q r : Queues) (cells after : List Cell) (c : ℕ) (now : List 
   pub line : now ≡ chain after (get_or r.first c 0) (get_or r.count c 0)
   pub counted : get_or r.ticks c 0 ≡ ticks_of now
   pub ends : last_of (get_or r.last c 0) (places_of r after c) ≡ get_or r.last c 0
-  pub short : All (λ p. p.length ≤ 255) now
+  pub short : Each (λ p. p.length ≤ 255) now
   pub once : (x : ℕ) → occurs x (places_of q cells c) + occurs x (free_places q cells) ≡ occurs x (places_of r after c) + occurs x (free_places r after)
   pub counts : get_or q.count c 0 + q.free_count ≡ get_or r.count c 0 + r.free_count
 
@@ -38,7 +38,7 @@ module _ (q r : Queues) (cells after : List Cell) (lines : List (List Packet)) (
         line = λ d h. elim (cases_eq d c) [ inl is ↦ at_c (λ e l. l ≡ chain after (get_or r.first e 0) (get_or r.count e 0)) d is moved.line | inr not ↦ else_line d h not ];
         counted = λ d h. elim (cases_eq d c) [ inl is ↦ at_c (λ e l. get_or r.ticks e 0 ≡ ticks_of l) d is moved.counted | inr not ↦ (moved.same d h not).ticks ∙ held.counted d h ∙ ap ticks_of (sym (other d not)) ];
         ends = λ d h. elim (cases_eq d c) [ inl is ↦ at_c (λ e l. last_of (get_or r.last e 0) (places_of r after e) ≡ get_or r.last e 0) d is moved.ends | inr not ↦ else_ends d h not ];
-        short = λ d h. elim (cases_eq d c) [ inl is ↦ at_c (λ e l. All (λ p. p.length ≤ 255) l) d is moved.short | inr not ↦ subst (All (λ p. p.length ≤ 255)) (sym (other d not)) (held.short d h) ];
+        short = λ d h. elim (cases_eq d c) [ inl is ↦ at_c (λ e l. Each (λ p. p.length ≤ 255) l) d is moved.short | inr not ↦ subst (Each (λ p. p.length ≤ 255)) (sym (other d not)) (held.short d h) ];
         once = λ x.
             sym (sum_change 8 (λ d. occurs x (places_of q cells d)) (λ d. occurs x (places_of r after d)) c _ _ class (λ d h not. ap (occurs x) (sym (placed d h not))) (moved.once x))
             ∙ held.once x

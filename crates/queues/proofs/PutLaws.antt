@@ -1,6 +1,6 @@
 -- A packet is put to the end of the queue of its class. Assumes nothing.
 use Rattle.std.proofs.Common.{◌≡◌, ℕ, ◌+◌, ◌-◌, ◌*◌, ◌<◌, ◌≤◌, true, false, ◌&&◌, ltb, leb, ◌≢◌, List, [], ◌∷◌, ◌++◌, map, length, get_or, set, sym, refl, ap, ◌∙◌, subst, add-zero, zero-add, arith}
-use Rattle.std.specs.List.{AllByRecursion as All}
+use Rattle.std.specs.List.{AllByRecursion as Each}
 use Rattle.std.proofs.lemmas.List.{get_or-set_same, get_or-set_other, length-set, length-map, map_push}
 use Rattle.std.proofs.ByRecursion.{All-push}
 use Rattle.std.proofs.lemmas.Bool.{le-leb, lt-ltb, le-ltb, and_from, and_right}
@@ -17,7 +17,7 @@ unfolding ticks_of
 ticks_push [] packet = add-zero packet.length ∙ sym (zero-add packet.length)
 ticks_push (first ∷ line) packet = omega (arith, ticks_push line packet)
 
-ticks_most : (line : List Packet) → All (λ p. p.length ≤ 255) line → ticks_of line ≤ 255 * length line
+ticks_most : (line : List Packet) → Each (λ p. p.length ≤ 255) line → ticks_of line ≤ 255 * length line
 unfolding ticks_of
 ticks_most [] short = omega arith
 ticks_most (first ∷ line) short = omega (arith, short.0, ticks_most line short.1)

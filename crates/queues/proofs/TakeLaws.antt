@@ -1,6 +1,6 @@
 -- The first packet of a class is taken, and its cell becomes free. Assumes nothing.
 use Rattle.std.proofs.Common.{◌≡◌, ℕ, zero, suc, ◌+◌, ◌-◌, ◌<◌, ◌≤◌, List, [], ◌∷◌, map, length, get_or, set, sym, refl, ap, ◌∙◌, subst, add-zero, arith}
-use Rattle.std.specs.List.{AllByRecursion as All}
+use Rattle.std.specs.List.{AllByRecursion as Each}
 use Rattle.std.proofs.lemmas.List.{get_or-set_same, get_or-set_other, length-set}
 use Rattle.lines.specs.declared.packet.Packet.{Packet}
 use Rattle.queues.specs.declared.cell.Cell.{Cell}
@@ -124,7 +124,7 @@ module _ (q : Queues) (cells : List Cell) (lines : List (List Packet)) (held : H
           line = sym (packets_next cells p q.free rest) ∙ ap (map (packet_at (took_cells q cells c))) (sym placed);
           counted = get_or-set_same q.ticks c _ 0 (omega arith) ∙ ticks-left;
           ends = ap (last_of (get_or q.last c 0)) placed ∙ last_rest (get_or q.last c 0) p rest (ap (last_of (get_or q.last c 0)) (sym split) ∙ held.ends c class);
-          short = (subst (All (λ p. p.length ≤ 255)) line_is (held.short c class)).1;
+          short = (subst (Each (λ p. p.length ≤ 255)) line_is (held.short c class)).1;
           once = λ x. omega (arith, ap (occurs x) split, ap (occurs x) placed, ap (occurs x) free_is, occurs-more x p rest, occurs-more x p (free_places q cells));
           counts = omega (arith, get_or-set_same q.count c k 0 (omega arith));
         }

@@ -1,6 +1,6 @@
 -- How the lent memory holds the queues. Assumes nothing.
 use Rattle.std.specs.Prelude.{◌≡◌, ℕ, zero, suc, ◌+◌, ◌<◌, ◌≤◌, min, cond, List, [], ◌∷◌, map, length, get_or, ◌==◌, nat_lt, slice_index, slice_index_or}
-use Rattle.std.specs.List.{AllByRecursion as All}
+use Rattle.std.specs.List.{AllByRecursion as Each}
 use Rattle.lines.specs.declared.packet.Packet.{Packet}
 use Rattle.queues.specs.declared.cell.Cell.{Cell}
 use Rattle.queues.specs.declared.queues_of.Queues.{Queues}
@@ -56,6 +56,6 @@ pub record Holds (q : Queues) (cells : List Cell) (lines : List (List Packet)) :
   pub line : (c : ℕ) → c < 8 → slice_index_or lines c [] ≡ chain cells (slice_index q.first c) (slice_index q.count c)
   pub counted : (c : ℕ) → c < 8 → slice_index q.ticks c ≡ ticks_of (slice_index_or lines c [])
   pub ends : (c : ℕ) → c < 8 → last_of (slice_index q.last c) (places_of q cells c) ≡ slice_index q.last c
-  pub short : (c : ℕ) → c < 8 → All (λ p. p.length ≤ 255) (slice_index_or lines c [])
+  pub short : (c : ℕ) → c < 8 → Each (λ p. p.length ≤ 255) (slice_index_or lines c [])
   pub once : (x : ℕ) → sum_to 8 (λ c. occurs x (places_of q cells c)) + occurs x (free_places q cells) ≡ cond (nat_lt x (size cells)) 1 0
   pub whole : waits q + q.free_count ≡ size cells

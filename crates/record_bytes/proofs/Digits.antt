@@ -2,7 +2,7 @@
 use Rattle.std.proofs.Common.{◌≡◌, ℕ, zero, suc, ◌+◌, ◌*◌, ◌/◌, ◌%◌, ◌^◌, ◌<◌, ◌≤◌, List, [], ◌∷◌, ◌++◌, length, get_or, take, drop, sym, refl, ap, ◌∙◌, mod-lt, mod-eq_of_lt, mul_assoc, div-lt_iff_lt-mul, add-mul, pow-suc, div-add-mod', add-one, arith}
 use native.Mathlib.Nat.{mul-add-mod_self_right, pow-zero, pow-succ'}
 use Rattle.std.proofs.lemmas.List.{length_push, take_more}
-use Rattle.std.specs.List.{AllByRecursion as All}
+use Rattle.std.specs.List.{AllByRecursion as Each}
 use Rattle.std.proofs.lemmas.Nat.{div-mul-add, mul-le}
 use Rattle.record_bytes.specs.Numbers.{value, bytes_of, IsByte}
 
@@ -22,7 +22,7 @@ value-bytes_of (suc k) n h =
     let low = mod-lt n (power_positive k) in
     rw (length-bytes_of k (n % 256 ^ k), value-bytes_of k (n % 256 ^ k) low, div-add-mod' n (256 ^ k)) refl
 
-pub value-below : (bs : List ℕ) → All IsByte bs → value bs < 256 ^ length bs
+pub value-below : (bs : List ℕ) → Each IsByte bs → value bs < 256 ^ length bs
 unfolding value
 value-below [] h = rw (pow-zero 256) (omega arith)
 value-below (b ∷ bs) h =
@@ -32,14 +32,14 @@ value-below (b ∷ bs) h =
     let sum = add-mul b 1 (256 ^ length bs) in
     omega arith)
 
-pub bytes_of-value : (bs : List ℕ) → All IsByte bs → bytes_of (length bs) (value bs) ≡ bs
+pub bytes_of-value : (bs : List ℕ) → Each IsByte bs → bytes_of (length bs) (value bs) ≡ bs
 unfolding value bytes_of
 bytes_of-value [] h = refl
 bytes_of-value (b ∷ bs) h =
     let low = value-below bs h.1 in
     rw (div-mul-add b (256 ^ length bs) (value bs) low, mul-add-mod_self_right b (256 ^ length bs) (value bs), mod-eq_of_lt low, bytes_of-value bs h.1) refl
 
-pub bytes_of-bytes : (k n : ℕ) → n < 256 ^ k → All IsByte (bytes_of k n)
+pub bytes_of-bytes : (k n : ℕ) → n < 256 ^ k → Each IsByte (bytes_of k n)
 unfolding bytes_of
 bytes_of-bytes zero n h = tt
 bytes_of-bytes (suc k) n h =

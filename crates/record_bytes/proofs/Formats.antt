@@ -1,6 +1,6 @@
 -- What holds of a format follows from what holds of its parts. Assumes nothing.
 use Rattle.std.proofs.Common.{◌≡◌, ℕ, ◌+◌, Bool, true, false, List, [], ◌∷◌, ◌++◌, length, sym, refl, ap, ◌∙◌, subst, arith}
-use Rattle.std.specs.List.{AllByRecursion as All}
+use Rattle.std.specs.List.{AllByRecursion as Each}
 use Rattle.std.proofs.lemmas.List.{append-nil, nil_from_length}
 use Rattle.record_bytes.specs.Reading.{Cursor, Outcome, read, fault, Verdict, accepted, refused, and_then, closed, start}
 use Rattle.record_bytes.specs.Numbers.{IsByte}
@@ -15,7 +15,7 @@ module _ {A : Type 0} (Sound : A → Type 0) (body : Cursor → Outcome A) (writ
       body (record { at = at; rest = write v ++ rest }) ≡ read v (record { at = at + length (write v); rest = rest })
 
   abbrev pub Tells : Type 0
-  Tells = (v : A) (c after : Cursor) → body c ≡ read v after → All IsByte c.rest → Sound v × Told c after (write v)
+  Tells = (v : A) (c after : Cursor) → body c ≡ read v after → Each IsByte c.rest → Sound v × Told c after (write v)
 
   pub format_of : Steady body → Writes → Tells → Format Sound (λ whole bs. closed whole (body (start bs))) write
   format_of steady writes tells =

@@ -1,6 +1,6 @@
 -- Where records begin and end. Assumes nothing.
 use Rattle.std.proofs.Common.{◌≡◌, ℕ, zero, suc, ◌+◌, ◌-◌, ◌*◌, ◌/◌, ◌%◌, ◌^◌, ◌<◌, ◌≤◌, Bool, true, false, cond, leb, List, [], ◌∷◌, ◌++◌, length, get_or, take, drop, sym, refl, ap, ◌∙◌, subst, ap₂, append_assoc, arith, length-append, length-drop, take-append-drop}
-use Rattle.std.specs.List.{AllByRecursion as All}
+use Rattle.std.specs.List.{AllByRecursion as Each}
 use Rattle.std.proofs.ByRecursion.{All-drop}
 use Rattle.std.proofs.lemmas.List.{take_rest, take_at, drop_at, length-take-le, nil_from_length, append-nil}
 use Rattle.std.proofs.lemmas.Bool.{le-leb, lt-leb, leb-true, leb-false}
@@ -33,7 +33,7 @@ row_of_nothing zero = refl
 row_of_nothing (suc n) = refl
 
 -- a row is read as one
-is_row : (n : ℕ) (bs : List ℕ) → length bs ≤ n → All IsByte bs → IsRow bs (row_within n bs)
+is_row : (n : ℕ) (bs : List ℕ) → length bs ≤ n → Each IsByte bs → IsRow bs (row_within n bs)
 unfolding row_within
 is_row zero [] long bytes = none
 is_row zero (b ∷ bs) long bytes = absurd (omega arith)
@@ -44,7 +44,7 @@ is_row (suc n) (a ∷ b ∷ bs) long bytes =
     (is_row n (drop (value (a ∷ b ∷ [])) bs) (rw (length-drop (value (a ∷ b ∷ [])) bs) (omega arith)) (All-drop IsByte (value (a ∷ b ∷ [])) bs bytes.1.1))
     (leb (value (a ∷ b ∷ [])) (length bs)) refl
   where
-    two : All IsByte (a ∷ b ∷ [])
+    two : Each IsByte (a ∷ b ∷ [])
     two = (bytes.0, (bytes.1.0, tt))
 
     sized : (s : ℕ) → bytes_of 2 s ≡ a ∷ b ∷ [] → s < 65536 → IsRow (drop s bs) (row_within n (drop s bs)) →

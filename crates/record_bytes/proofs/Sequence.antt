@@ -3,7 +3,7 @@ use Rattle.std.proofs.Common.{◌≡◌, ℕ, zero, suc, ◌+◌, ◌≤◌, Boo
 use Rattle.std.proofs.lemmas.Bool.{eqb-true, eq-eqb, leb-true, and_parts}
 use Rattle.record_bytes.specs.Reading.{Cursor, Outcome, read, fault, Verdict, accepted, refused, and_then, several, closed}
 use Rattle.record_bytes.specs.Numbers.{number, ranged}
-use Rattle.std.specs.List.{AllByRecursion as All}
+use Rattle.std.specs.List.{AllByRecursion as Each}
 
 pub same_value : {A : Type 0} {v w : A} {c d : Cursor} → read v c ≡ read w d → v ≡ w
 same_value e = cc
@@ -48,7 +48,7 @@ ranged_bounds k low high n c after e =
 -- parts of one kind are as many as were asked for, and what holds of each part that is read holds of all
 pub several_all : {A : Type 0} (P : A → Type 0) (one : Cursor → Outcome A) →
     ((v : A) (c after : Cursor) → one c ≡ read v after → P v) →
-    (n : ℕ) (vs : List A) (c after : Cursor) → several n one c ≡ read vs after → (length vs ≡ n) × All P vs
+    (n : ℕ) (vs : List A) (c after : Cursor) → several n one c ≡ read vs after → (length vs ≡ n) × Each P vs
 unfolding several
 several_all {A = A} P one each zero vs c after e =
     let none : [] ≡ vs = cc in
@@ -58,5 +58,5 @@ several_all {A = A} P one each (suc n) vs c after e =
     let second = both_read (several n one first.1) _ vs after first.3 in
     let is : first.0 ∷ second.0 ≡ vs = cc second.3 in
     let tail = several_all P one each n second.0 first.1 second.1 second.2 in
-    let Q : List A → Type 0 = λ ws. (length ws ≡ suc n) × All P ws in
+    let Q : List A → Type 0 = λ ws. (length ws ≡ suc n) × Each P ws in
     subst Q is (ap suc tail.0, (each first.0 c first.1 first.2, tail.1))

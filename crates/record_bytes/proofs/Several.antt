@@ -1,7 +1,7 @@
 -- Parts of one kind, one after the other: a loop that reads them, and what they tell. Assumes nothing.
 use Rattle.std.proofs.Common.{◌≡◌, ℕ, zero, suc, ◌+◌, ◌-◌, ◌<◌, ◌≤◌, List, [], ◌∷◌, ◌++◌, length, take, set, sym, refl, ap, ◌∙◌, subst₂, append_assoc, add-zero, add_assoc, arith, length-append}
 use Rattle.std.proofs.lemmas.List.{take_more_set, append-nil}
-use Rattle.std.specs.List.{flat_map, AllByRecursion as All}
+use Rattle.std.specs.List.{flat_map, AllByRecursion as Each}
 use Rattle.record_bytes.specs.Reading.{Cursor, Outcome, read, fault, and_then, several}
 use Rattle.record_bytes.specs.Numbers.{IsByte}
 use Rattle.record_bytes.proofs.Sequence.{both_read}
@@ -70,7 +70,7 @@ module _ {A : Type 0} (Sound : A → Type 0) (one : Cursor → Outcome A) (write
 
   pub several_written : ((v : A) → Sound v → (at : ℕ) (rest : List ℕ) →
       one (record { at = at; rest = write v ++ rest }) ≡ read v (record { at = at + length (write v); rest = rest })) →
-      (vs : List A) → All Sound vs → (at : ℕ) (rest : List ℕ) →
+      (vs : List A) → Each Sound vs → (at : ℕ) (rest : List ℕ) →
       several (length vs) one (record { at = at; rest = flat_map write vs ++ rest }) ≡ read vs (record { at = at + length (flat_map write vs); rest = rest })
   unfolding several
   several_written written [] sound at rest = rw (add-zero at) refl
@@ -83,9 +83,9 @@ module _ {A : Type 0} (Sound : A → Type 0) (one : Cursor → Outcome A) (write
         add_assoc at (length (write v)) (length (flat_map write vs)),
       ) refl
 
-  pub several_told : ((v : A) (c after : Cursor) → one c ≡ read v after → All IsByte c.rest → Sound v × Told c after (write v)) →
-      (n : ℕ) (vs : List A) (c after : Cursor) → several n one c ≡ read vs after → All IsByte c.rest →
-      (length vs ≡ n) × All Sound vs × Told c after (flat_map write vs)
+  pub several_told : ((v : A) (c after : Cursor) → one c ≡ read v after → Each IsByte c.rest → Sound v × Told c after (write v)) →
+      (n : ℕ) (vs : List A) (c after : Cursor) → several n one c ≡ read vs after → Each IsByte c.rest →
+      (length vs ≡ n) × Each Sound vs × Told c after (flat_map write vs)
   unfolding several
   several_told told zero vs c after e bytes =
       let none : [] ≡ vs = cc in
@@ -98,7 +98,7 @@ module _ {A : Type 0} (Sound : A → Type 0) (one : Cursor → Outcome A) (write
       let ends : second.1 ≡ after = cc second.3 in
       let head = told first.0 c first.1 first.2 bytes in
       let tail = several_told told n second.0 first.1 second.1 second.2 head.1.left in
-      let P : List A → Cursor → Type 0 = λ ws d. (length ws ≡ suc n) × All Sound ws × Told c d (flat_map write ws) in
+      let P : List A → Cursor → Type 0 = λ ws d. (length ws ≡ suc n) × Each Sound ws × Told c d (flat_map write ws) in
       subst₂ P is ends (
         ap suc tail.0,
         (head.0, tail.1),

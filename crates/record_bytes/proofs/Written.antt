@@ -1,6 +1,6 @@
 -- Reading what was written gives the number, and a number that is read was written so. Assumes nothing.
 use Rattle.std.proofs.Common.{◌≡◌, ℕ, ◌+◌, ◌^◌, ◌<◌, ◌≤◌, Bool, true, false, cond, ◌&&◌, eqb, leb, List, [], ◌∷◌, ◌++◌, length, take, drop, sym, refl, ap, ◌∙◌, append_assoc, add-zero, arith, length-append, take-append-drop}
-use Rattle.std.specs.List.{AllByRecursion as All}
+use Rattle.std.specs.List.{AllByRecursion as Each}
 use Rattle.std.proofs.lemmas.List.{take_at, drop_at, length-take-le}
 use Rattle.std.proofs.ByRecursion.{All-take, All-drop}
 use Rattle.std.proofs.lemmas.Bool.{le-leb, leb-true, eq-eqb, eqb-true, and_from, and_parts}
@@ -26,7 +26,7 @@ number_written k n at rest fits =
 pub record Told (c after : Cursor) (bytes : List ℕ) : Type 0 where
   pub bytes_are : c.rest ≡ bytes ++ after.rest
   pub onward : after.at ≡ c.at + length bytes
-  pub left : All IsByte after.rest
+  pub left : Each IsByte after.rest
 
 -- one part behind another
 pub told_then : (c mid after : Cursor) (a b : List ℕ) → Told c mid a → Told mid after b → Told c after (a ++ b)
@@ -38,10 +38,10 @@ told_then c mid after a b first second =
     }
 
 -- no bytes at all
-pub told_none : (c : Cursor) → All IsByte c.rest → Told c c []
+pub told_none : (c : Cursor) → Each IsByte c.rest → Told c c []
 told_none c bytes = record { bytes_are = refl; onward = sym (add-zero c.at); left = bytes }
 
-pub number_told : (k n : ℕ) (c after : Cursor) → number k c ≡ read n after → All IsByte c.rest →
+pub number_told : (k n : ℕ) (c after : Cursor) → number k c ≡ read n after → Each IsByte c.rest →
     (n < 256 ^ k) × Told c after (bytes_of k n)
 unfolding number
 number_told k n c after e bytes =
@@ -65,7 +65,7 @@ module _ (k : ℕ) (good : ℕ → Bool) (code : ℕ) where
       tested k good code (record { at = at; rest = bytes_of k n ++ rest }) ≡ read n (record { at = at + k; rest = rest })
   tested_written n at rest fits passed = rw (number_written k n at rest fits, passed) refl
 
-  pub tested_told : (n : ℕ) (c after : Cursor) → tested k good code c ≡ read n after → All IsByte c.rest →
+  pub tested_told : (n : ℕ) (c after : Cursor) → tested k good code c ≡ read n after → Each IsByte c.rest →
       (good n ≡ true) × (n < 256 ^ k) × Told c after (bytes_of k n)
   tested_told n c after e bytes =
       let got = both_read (number k c) _ n after e in
@@ -80,7 +80,7 @@ unfolding ranged
 ranged_written k low high n at rest fits above below =
     tested_written k _ 2 n at rest fits (and_from (leb low n) (leb n high) (le-leb low n above) (le-leb n high below))
 
-pub ranged_told : (k low high n : ℕ) (c after : Cursor) → ranged k low high c ≡ read n after → All IsByte c.rest →
+pub ranged_told : (k low high n : ℕ) (c after : Cursor) → ranged k low high c ≡ read n after → Each IsByte c.rest →
     (low ≤ n) × (n ≤ high) × (n < 256 ^ k) × Told c after (bytes_of k n)
 unfolding ranged
 ranged_told k low high n c after e bytes =
@@ -93,7 +93,7 @@ pub kind_written : (k at : ℕ) (rest : List ℕ) → k < 256 →
 unfolding kind_byte
 kind_written k at rest fits = tested_written 1 _ 1 k at rest fits (eq-eqb k k refl)
 
-pub kind_told : (k n : ℕ) (c after : Cursor) → kind_byte k c ≡ read n after → All IsByte c.rest →
+pub kind_told : (k n : ℕ) (c after : Cursor) → kind_byte k c ≡ read n after → Each IsByte c.rest →
     (n ≡ k) × Told c after (bytes_of 1 k)
 unfolding kind_byte
 kind_told k n c after e bytes =

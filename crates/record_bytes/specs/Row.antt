@@ -1,6 +1,6 @@
 -- The row of records: before each stands its length, two bytes, high byte first. Assumes nothing.
 use Rattle.std.specs.Prelude.{◌≡◌, ℕ, zero, suc, ◌<◌, Bool, true, false, cond, List, [], ◌∷◌, ◌++◌, length, take, drop, nat_le}
-use Rattle.std.specs.List.{AllByRecursion as All}
+use Rattle.std.specs.List.{AllByRecursion as Each}
 use Rattle.record_bytes.specs.Numbers.{value, bytes_of, IsByte}
 
 -- the bytes of one record, and whether they are all there or the input ended before
@@ -51,4 +51,4 @@ pub data IsRow : List ℕ → List Extent → Type 0 where
 
 -- every input is a row of records in one way, and in no other: nothing is skipped, and nothing is read twice
 abbrev pub OneRow : Type 0
-OneRow = (bs : List ℕ) → All IsByte bs → IsRow bs (row bs) × ((es : List Extent) → IsRow bs es → es ≡ row bs)
+OneRow = (bs : List ℕ) → Each IsByte bs → IsRow bs (row bs) × ((es : List Extent) → IsRow bs es → es ≡ row bs)

@@ -1,6 +1,6 @@
 -- Packets, ticks and switches are read from what is written for them, and from nothing else. Assumes nothing.
 use Rattle.std.proofs.Common.{◌≡◌, ℕ, suc, ◌+◌, ◌^◌, ◌<◌, ◌≤◌, Bool, ltb, List, [], ◌∷◌, ◌++◌, length, sym, refl, ap, ◌∙◌, subst, subst₂, append_assoc, arith, length-append}
-use Rattle.std.specs.List.{AllByRecursion as All}
+use Rattle.std.specs.List.{AllByRecursion as Each}
 use Rattle.std.proofs.lemmas.Bool.{ltb-true, lt-ltb}
 use Rattle.record_bytes.specs.Reading.{Cursor, Outcome, read, and_then}
 use Rattle.record_bytes.specs.Numbers.{number, kind_byte, bytes_of, IsByte}
@@ -42,7 +42,7 @@ packet_written p sound at rest =
     )
     (ap (λ n. read p (record { at = n; rest = rest })) places)
 
-packet_told : (p : Packet) (c after : Cursor) → packet_from c ≡ read p after → All IsByte c.rest → SoundPacket p × Told c after (packet_bytes p)
+packet_told : (p : Packet) (c after : Cursor) → packet_from c ≡ read p after → Each IsByte c.rest → SoundPacket p × Told c after (packet_bytes p)
 unfolding packet_from
 packet_told p c after e bytes =
     let kind = both_read (kind_byte 3 c) _ p after e in
@@ -85,7 +85,7 @@ arrival_written ports few a sound at rest =
     )
     (ap (λ n. read a (record { at = n; rest = rest })) places)
 
-arrival_told : (ports : ℕ) (a : Arrival) (c after : Cursor) → arrival_from ports c ≡ read a after → All IsByte c.rest →
+arrival_told : (ports : ℕ) (a : Arrival) (c after : Cursor) → arrival_from ports c ≡ read a after → Each IsByte c.rest →
     SoundArrival ports a × Told c after (arrival_bytes a)
 unfolding arrival_from port_number
 arrival_told ports a c after e bytes =
@@ -128,7 +128,7 @@ module _ {A : Type 0} (code k : ℕ) (made : ℕ → A) (number_of : A → ℕ) 
       )
       (ap (λ n. read a (record { at = n; rest = rest })) places)
 
-  single_told : ((n : ℕ) → number_of (made n) ≡ n) → (a : A) (c after : Cursor) → single c ≡ read a after → All IsByte c.rest →
+  single_told : ((n : ℕ) → number_of (made n) ≡ n) → (a : A) (c after : Cursor) → single c ≡ read a after → Each IsByte c.rest →
       (number_of a < 256 ^ k) × Told c after (single_bytes a)
   single_told forth a c after e bytes =
       let kind = both_read (kind_byte code c) _ a after e in
