@@ -1,5 +1,5 @@
 -- The first flow that is late. Assumes nothing.
-use Rattle.std.proofs.Common.{◌≡◌, ℕ, Bool, true, false, cond, List, [], ◌∷◌, Some, None, Option, sym, refl, ap, ◌∙◌}
+use Rattle.std.proofs.Common.{◌≡◌, ℕ, true, false, List, ◌∷◌, Some, Option, sym, refl, ◌∙◌}
 use Rattle.flows.specs.Net.{NetModel}
 use Rattle.promises.specs.Loads.{LoadModel}
 use Rattle.admission.specs.Tests.{NumberedModel, is_late, first_late}

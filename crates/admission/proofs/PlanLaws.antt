@@ -1,23 +1,23 @@
 -- What a plan keeps, with no flow and with one more. Assumes nothing.
-use Rattle.std.proofs.Common.{◌≡◌, ℕ, zero, suc, ◌+◌, ◌-◌, ◌*◌, ◌/◌, ◌<◌, ◌≤◌, Bool, true, false, cond, ◌&&◌, eqb, ltb, List, [], ◌∷◌, ◌++◌, map, length, get_or, take, Some, None, vec_items, box_value, Option, sym, refl, ap, ◌∙◌, subst, zero-add, arith, length-append}
+use Rattle.std.proofs.Common.{◌≡◌, ℕ, zero, suc, ◌+◌, ◌-◌, ◌<◌, ◌≤◌, Bool, true, false, cond, eqb, List, [], ◌∷◌, ◌++◌, map, length, get_or, take, Some, None, vec_items, box_value, Option, sym, refl, ap, ◌∙◌, subst, zero-add, arith}
 use mathlib.Core.List.{map-append}
 use lib.ListN.{length-map}
 use Rattle.std.specs.List.{AllByRecursion as Each}
-use Rattle.std.proofs.lemmas.List.{length-take-le, length_push, get_or-take}
-use Rattle.std.proofs.ByRecursion.{All-push, Each-weaker}
+use Rattle.std.proofs.lemmas.List.{length-take-le, length_push}
+use Rattle.std.proofs.ByRecursion.{All-push, All-weaker}
 use Rattle.std.proofs.lemmas.Bool.{lt-ltb, cond-true}
 use lib.Seq.{take-append_seam}
 use Rattle.flows.specs.declared.net.Net.{Net}
 use Rattle.flows.specs.declared.flow.Flow.{Flow}
 use Rattle.flows.specs.Net.{NetModel, port_at}
-use Rattle.flows.specs.Flow.{FlowModel, IsRoad, Once}
+use Rattle.flows.specs.Flow.{FlowModel, IsRoad}
 use Rattle.flows.specs.Roads.{leads}
 use Rattle.flows.specs.Models.{net_of, flow_of}
 use Rattle.flows.proofs.LeadLaws.{leads_exactly}
 use Rattle.promises.specs.declared.loads.Loads.{Loads}
 use Rattle.promises.specs.declared.pairs.Pairs.{Pairs}
 use Rattle.promises.specs.Models.{load_model, loads_model, pairs_model}
-use Rattle.promises.specs.Promises.{den, rates, before, port_need, bursts, regulator_need, windowed}
+use Rattle.promises.specs.Promises.{before, bursts, windowed}
 use Rattle.promises.specs.Loads.{LoadModel, loads_with, pairs_with}
 use Rattle.promises.specs.Laws.{Kept, PairsOf, Squared, Bounded}
 use Rattle.promises.proofs.TableLaws.{table_kept}
@@ -31,7 +31,7 @@ use Rattle.admission.specs.declared.refusal.Refusal.TheVariants.{Crowded}
 use Rattle.admission.specs.Models.{numbered_model}
 use Rattle.admission.specs.Tests.{NumberedModel, judged}
 use Rattle.admission.specs.Rules.{flows_of, Routed, Fits, refusal_of}
-use Rattle.admission.specs.Sound.{keeps_loads, keeps_pairs, all_roads, is_none, passes_all}
+use Rattle.admission.specs.Sound.{all_roads, is_none, passes_all}
 use Rattle.admission.specs.Plans.{PlanModel, tested}
 use Rattle.admission.proofs.RuleLaws.{admission_laws}
 use Rattle.admission.proofs.KeepLaws as keep
@@ -155,7 +155,7 @@ module _ (plan : Plan) (n : Numbered) (leading : leads (net_of plan.net) (flow_o
   low_ports : Each (λ p. p < 64) f.road
   low_ports =
       let few = ports-few net in
-      Each-weaker (λ p. p < length (net_of net).ports) (λ p. p < 64) (λ p less. omega arith) f.road route.known
+      All-weaker (λ p. p < length (net_of net).ports) (λ p. p < 64) (λ p less. omega arith) f.road route.known
 
   few-flows : length gs ≤ 255 → length fs ≤ 255
   few-flows few = let size = length-map gs (λ (g : NumberedModel). g.flow) in omega arith

@@ -4,7 +4,7 @@ use Rattle.std.proofs.Common.{◌≡◌, ℕ, zero, suc, ◌+◌, ◌-◌, ◌<�
 use lib.ListN.{length-map}
 use Rattle.std.specs.List.{AllByRecursion as Each}
 use Rattle.std.specs.Option.{option_map}
-use Rattle.std.proofs.ByRecursion.{Each-weaker}
+use Rattle.std.proofs.ByRecursion.{All-weaker}
 use Rattle.std.proofs.lemmas.List.{take_all}
 use Rattle.std.proofs.lemmas.Bool.{cases_lt, ltb-true, ltb-false, le-ltb, eq-eqb, ne_eqb, or_from, or_left, or_right, and_from}
 use Rattle.flows.specs.Net.{NetModel}
@@ -83,7 +83,7 @@ unfolding passes
 road-passes [] = tt
 road-passes (q ∷ ps) = (
   or_left (eqb q q) (passes q ps) (eq-eqb q q refl),
-  Each-weaker (λ p. passes p ps ≡ true) (λ p. passes p (q ∷ ps) ≡ true) (λ p on. or_right (eqb p q) (passes p ps) on) ps (road-passes ps),
+  All-weaker (λ p. passes p ps ≡ true) (λ p. passes p (q ∷ ps) ≡ true) (λ p on. or_right (eqb p q) (passes p ps) on) ps (road-passes ps),
 )
 
 -- the rate of each flow is among those of its class
@@ -95,7 +95,7 @@ unfolding rates_in
 each_among [] = tt
 each_among (g ∷ fs) = (
   λ p on. rw (and_from (over p g) (eqb g.class g.class) on (eq-eqb g.class g.class refl)) (omega arith),
-  Each-weaker (Among fs) (Among (g ∷ fs)) (λ f among p on. let few = among p on in omega arith) fs (each_among fs),
+  All-weaker (Among fs) (Among (g ∷ fs)) (λ f among p on. let few = among p on in omega arith) fs (each_among fs),
 )
 
 -- the last of the dues along a road is the due over it
@@ -109,10 +109,10 @@ last-due net fs c (p ∷ ps) some =
 -- for flows with roads through a net
 module _ (net : NetModel) (fs : List FlowModel) (sound : Each (Routed net) fs) where
   low : Each Classed fs
-  low = Each-weaker (Routed net) Classed (λ f h. h.class_low) fs sound
+  low = All-weaker (Routed net) Classed (λ f h. h.class_low) fs sound
 
   rated : Each Rated fs
-  rated = Each-weaker (Routed net) Rated (λ f h. h.rate_some) fs sound
+  rated = All-weaker (Routed net) Rated (λ f h. h.rate_some) fs sound
 
   -- no port at all is promised more than all of itself, as none of the net is
   pub room_everywhere : ((p : ℕ) → p < length net.ports → rates p fs ≤ den) → (p : ℕ) → rates p fs ≤ den

@@ -1,5 +1,5 @@
 -- The first that passes a test. Assumes nothing.
-use Rattle.std.specs.Prelude.{◌≡◌, ℕ, zero, suc, ◌+◌, ◌<◌, ◌≤◌, Bool, true, false, cond, Some, None, Option}
+use Rattle.std.specs.Prelude.{◌≡◌, ℕ, zero, suc, ◌+◌, ◌<◌, Bool, true, false, cond, Some, None, Option}
 
 -- the lowest of the n numbers from k on that passes a test
 unfoldable pub lowest : (ℕ → Bool) → ℕ → ℕ → Option ℕ

@@ -1,6 +1,4 @@
 -- What the values of the code stand for. Assumes nothing.
-use Rattle.std.specs.Prelude.{ℕ, List, map}
-use Rattle.flows.specs.Flow.{FlowModel}
 use Rattle.flows.specs.Models.{flow_of}
 use Rattle.admission.specs.declared.refusal.Numbered.{Numbered}
 use Rattle.admission.specs.Tests.{NumberedModel}

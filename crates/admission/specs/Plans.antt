@@ -1,5 +1,5 @@
 -- A plan: a net, and the flows that are admitted to it. Assumes nothing.
-use Rattle.std.specs.Prelude.{◌≡◌, ℕ, cond, List, [], ◌∷◌, ◌++◌, map, Some, None, Ok, Err, vec_items, Option, Result}
+use Rattle.std.specs.Prelude.{◌≡◌, cond, List, [], ◌∷◌, ◌++◌, map, Some, None, Ok, Err, vec_items, Option, Result}
 use Rattle.flows.specs.Net.{NetModel}
 use Rattle.flows.specs.Roads.{leads}
 use Rattle.flows.specs.Models.{net_of}

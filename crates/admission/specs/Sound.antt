@@ -1,5 +1,5 @@
 -- What a plan keeps of its flows, as tests. Assumes nothing.
-use Rattle.std.specs.Prelude.{◌≡◌, ℕ, zero, suc, Bool, true, false, cond, ◌&&◌, List, [], ◌∷◌, ◌++◌, Some, None, Option, slice_index_or}
+use Rattle.std.specs.Prelude.{ℕ, zero, suc, Bool, true, false, ◌&&◌, List, [], ◌∷◌, Some, None, Option, slice_index_or}
 use Rattle.std.specs.Str.{bytes_eq}
 use Rattle.flows.specs.Net.{NetModel}
 use Rattle.flows.specs.Flow.{FlowModel}
@@ -7,7 +7,7 @@ use Rattle.flows.specs.Roads.{leads}
 use Rattle.promises.specs.Loads.{LoadModel, no_load, load_of, pair_of, pair_at}
 use Rattle.admission.specs.declared.refusal.Refusal.{Refusal}
 use Rattle.admission.specs.Tests.{NumberedModel}
-use Rattle.admission.specs.Rules.{flows_of, refusal_of}
+use Rattle.admission.specs.Rules.{refusal_of}
 
 -- the same sums
 abbrev pub same_load : LoadModel → LoadModel → Bool

@@ -1,5 +1,5 @@
 -- The tests of admission, by the sums that are kept. Assumes nothing.
-use Rattle.std.specs.Prelude.{ℕ, ◌-◌, Bool, true, false, cond, List, [], ◌∷◌, length, Some, None, Option, nat_lt, slice_index, slice_index_or}
+use Rattle.std.specs.Prelude.{ℕ, ◌-◌, Bool, true, cond, List, [], ◌∷◌, length, Some, None, Option, nat_lt, slice_index, slice_index_or}
 use Rattle.std.specs.Option.{option_map}
 use Rattle.flows.specs.Net.{NetModel}
 use Rattle.flows.specs.Flow.{FlowModel}

@@ -1,16 +1,16 @@
 -- Flows that are read are sound, and are what is written for them. Assumes nothing.
-use Rattle.std.proofs.Common.{◌≡◌, ℕ, suc, ◌+◌, ◌^◌, ◌<◌, ◌≤◌, List, [], ◌∷◌, ◌++◌, length, sym, refl, ap, ◌∙◌, subst, subst₂, append_assoc, zero-add, arith, length-append}
+use Rattle.std.proofs.Common.{◌≡◌, ℕ, ◌+◌, ◌^◌, ◌<◌, ◌≤◌, List, [], ◌++◌, length, sym, ap, ◌∙◌, subst, subst₂, append_assoc, zero-add, arith, length-append}
 use Rattle.std.specs.List.{AllByRecursion as Each}
-use Rattle.record_bytes.specs.Reading.{Cursor, Outcome, read, fault, and_then, closed, start}
+use Rattle.record_bytes.specs.Reading.{Cursor, read}
 use Rattle.record_bytes.specs.Numbers.{number, ranged, kind_byte, bytes_of, IsByte}
 use Rattle.record_bytes.specs.Format.{Format}
 use Rattle.record_bytes.proofs.Sequence.{both_read, same_value, same_place}
 use Rattle.record_bytes.proofs.Digits.{length-bytes_of}
-use Rattle.record_bytes.proofs.Written.{Told, told_then, told_none, number_told, number_written, ranged_told, ranged_written, kind_told, kind_written}
+use Rattle.record_bytes.proofs.Written.{Told, told_then, number_told, number_written, ranged_told, ranged_written, kind_told, kind_written}
 use Rattle.record_bytes.proofs.Steady.{Steady, steady_then, steady_value, steady_number, steady_ranged, steady_kind}
 use Rattle.record_bytes.proofs.Formats.{format_of}
 use Rattle.flows.specs.Net.{NetModel}
-use Rattle.flows.specs.Flow.{FlowModel, InRange, IsRoad, SoundFlow}
+use Rattle.flows.specs.Flow.{FlowModel, SoundFlow}
 use Rattle.flows.specs.FlowFormat.{road_from, flow_from, flow_record, flow_bytes}
 use Rattle.flows.proofs.RoadLaws.{road_told, road-bytes, road_written, steady_road}
 

@@ -1,9 +1,9 @@
 -- The test of a road is passed by roads, and by nothing else. Assumes nothing.
-use Rattle.std.proofs.Common.{◌≡◌, ℕ, ◌<◌, ◌≤◌, Bool, true, false, not, ◌&&◌, eqb, ltb, List, [], ◌∷◌, length, get_or, take, sym, refl, ap, ◌∙◌, arith}
+use Rattle.std.proofs.Common.{◌≡◌, ℕ, ◌<◌, ◌≤◌, Bool, true, false, not, ◌&&◌, eqb, ltb, List, [], ◌∷◌, length, get_or, sym, refl, ap, ◌∙◌, arith}
 use Rattle.std.specs.List.{AllByRecursion as Each}
 use Rattle.std.proofs.lemmas.Bool.{and_parts, and_from, and_left, ltb-true, lt-ltb, eqb-true, eqb-false, eq-eqb, ne_eqb, not-true, not_from_false, or_parts, or_from}
 use Rattle.flows.specs.Net.{NetModel, port_at}
-use Rattle.flows.specs.Flow.{Once, Joined, IsRoad}
+use Rattle.flows.specs.Flow.{Joined, IsRoad}
 use Rattle.flows.specs.FlowFormat.{passes}
 use Rattle.flows.specs.Roads.{goes_on, step_fits, leads, LeadsExactly}
 

@@ -1,8 +1,8 @@
 -- Nets are read from what is written for them, and from nothing else. Assumes nothing.
-use Rattle.std.proofs.Common.{◌≡◌, ℕ, suc, ◌+◌, ◌*◌, ◌^◌, ◌<◌, ◌≤◌, max, List, [], ◌∷◌, ◌++◌, length, sym, refl, ap, ◌∙◌, subst, subst₂, append_assoc, arith, length-append}
+use Rattle.std.proofs.Common.{◌≡◌, ℕ, ◌+◌, ◌^◌, ◌<◌, ◌≤◌, max, List, [], ◌∷◌, ◌++◌, length, sym, refl, ap, subst, subst₂, append_assoc, arith, length-append}
 use Rattle.std.specs.List.{flat_map, AllByRecursion as Each}
-use Rattle.std.proofs.ByRecursion.{Each-weaker}
-use Rattle.record_bytes.specs.Reading.{Cursor, Outcome, read, and_then, several}
+use Rattle.std.proofs.ByRecursion.{All-weaker}
+use Rattle.record_bytes.specs.Reading.{Cursor, read, several}
 use Rattle.record_bytes.specs.Numbers.{number, ranged, kind_byte, bytes_of, IsByte}
 use Rattle.record_bytes.specs.Format.{Format}
 use Rattle.record_bytes.proofs.Sequence.{both_read, same_value, same_place}
@@ -12,7 +12,7 @@ use Rattle.record_bytes.proofs.Several.{several_written, several_told, steady_se
 use Rattle.record_bytes.proofs.Steady.{Steady, steady_then, steady_value, steady_number, steady_ranged, steady_kind}
 use Rattle.record_bytes.proofs.Formats.{format_of}
 use Rattle.flows.specs.declared.port.Port.{Port}
-use Rattle.flows.specs.Net.{NetModel, SoundPort, SoundNet}
+use Rattle.flows.specs.Net.{NetModel, SoundPort}
 use Rattle.flows.specs.NetFormat.{port_from, port_bytes, needed, net_from, net_record, net_bytes, SoundAtLeast}
 use Rattle.flows.proofs.NetLaws.{net_sound}
 
@@ -69,7 +69,7 @@ needed_enough least s (p ∷ ps) enough sound =
     needed_enough (max (max least (p.switch + 1)) (p.ends + 1)) s ps (omega arith) sound.1
 
 fitting : (s : ℕ) → s ≤ 255 → (ports : List Port) → Each (SoundPort s) ports → Each Fitting ports
-fitting s few = Each-weaker (SoundPort s) Fitting (λ p sound. (omega (arith, sound.0), omega (arith, sound.1), sound.2))
+fitting s few = All-weaker (SoundPort s) Fitting (λ p sound. (omega (arith, sound.0), omega (arith, sound.1), sound.2))
 
 steady_net : (least : ℕ) → Steady (net_from least)
 unfolding net_from

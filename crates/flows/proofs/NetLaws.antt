@@ -1,9 +1,9 @@
 -- Nets that are read are sound. Assumes nothing.
-use Rattle.std.proofs.Common.{◌≡◌, ℕ, suc, ◌+◌, ◌<◌, ◌≤◌, max, List, [], ◌∷◌, ◌++◌, length, get_or, take, sym, refl, ap, ◌∙◌, subst, subst₂, arith}
-use Rattle.std.specs.List.{flat_map, AllByRecursion as Each}
+use Rattle.std.proofs.Common.{◌≡◌, ℕ, ◌+◌, ◌<◌, ◌≤◌, max, List, [], ◌∷◌, length, get_or, take, sym, ap, subst, arith}
+use Rattle.std.specs.List.{AllByRecursion as Each}
 use Rattle.std.proofs.lemmas.List.{get_or-take, length-take}
-use Rattle.std.proofs.ByRecursion.{All-get_or, Each-weaker}
-use Rattle.record_bytes.specs.Reading.{Cursor, Outcome, read, fault, and_then, several}
+use Rattle.std.proofs.ByRecursion.{All-get_or}
+use Rattle.record_bytes.specs.Reading.{Cursor, Outcome, read, fault, several}
 use Rattle.record_bytes.specs.Numbers.{number, ranged, kind_byte}
 use Rattle.record_bytes.proofs.Sequence.{both_read, same_value, ranged_bounds, several_all}
 use Rattle.flows.specs.declared.port.Port.{Port}

@@ -1,10 +1,10 @@
 -- Roads. Assumes nothing.
-use Rattle.std.proofs.Common.{◌≡◌, ℕ, zero, suc, ◌+◌, ◌-◌, ◌<◌, ◌≤◌, Bool, true, false, cond, not, ◌&&◌, ◌||◌, eqb, ltb, List, [], ◌∷◌, ◌++◌, length, get_or, take, set, sym, refl, ap, ◌∙◌, subst, append_assoc, add-zero, zero-add, arith}
+use Rattle.std.proofs.Common.{◌≡◌, ℕ, zero, suc, ◌+◌, ◌-◌, ◌<◌, ◌≤◌, Bool, true, false, cond, not, ◌&&◌, eqb, ltb, List, [], ◌∷◌, ◌++◌, length, get_or, take, set, sym, refl, ◌∙◌, subst, append_assoc, add-zero, zero-add, arith}
 use Rattle.std.proofs.lemmas.List.{take_more_set, append-nil, length_push, get_or-take}
 use Rattle.std.proofs.ByRecursion.{All-push, All-get_or}
 use Rattle.std.specs.List.{AllByRecursion as Each}
 use Rattle.std.proofs.lemmas.Bool.{le-ltb, lt-ltb, ltb-true, eqb-true, eqb-false, eq-eqb, ne_eqb, or_parts, or_from, and_parts, and_from, not-true, not_from_false}
-use Rattle.record_bytes.specs.Reading.{Cursor, Outcome, read, fault, and_then}
+use Rattle.record_bytes.specs.Reading.{Cursor, Outcome, read, fault}
 use Rattle.record_bytes.specs.Numbers.{number, IsByte}
 use Rattle.record_bytes.proofs.Sequence.{both_read, test_passed}
 use Rattle.record_bytes.proofs.Digits.{bytes_of_one}

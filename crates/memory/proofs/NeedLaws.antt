@@ -1,5 +1,5 @@
 -- The sums that are kept give what the flows need. Assumes nothing.
-use Rattle.std.proofs.Common.{◌≡◌, ℕ, zero, suc, ◌+◌, ◌-◌, ◌*◌, ◌/◌, ◌<◌, ◌≤◌, Bool, true, false, cond, ◌&&◌, ◌||◌, eqb, ltb, leb, ◌⊎◌, List, [], ◌∷◌, length, get_or, take, unwrap_or, sym, refl, ap, ◌∙◌, ap₂, inl, inr, zero-add, arith}
+use Rattle.std.proofs.Common.{◌≡◌, ℕ, zero, suc, ◌+◌, ◌-◌, ◌*◌, ◌/◌, ◌<◌, ◌≤◌, Bool, true, false, cond, ◌&&◌, eqb, List, [], ◌∷◌, get_or, take, unwrap_or, sym, refl, ap, ◌∙◌, ap₂, inl, inr, zero-add, arith}
 use Rattle.std.specs.List.{AllByRecursion as Each}
 use Rattle.std.proofs.lemmas.List.{take_all}
 use Rattle.std.proofs.lemmas.Bool.{cases_lt, cases_Bool, lt-ltb, le-ltb, eqb-true, or_cases, or_left, or_right, and_parts, and_from, eq-eqb, ne_eqb}
@@ -7,7 +7,7 @@ use Rattle.flows.specs.Net.{NetModel, port_at}
 use Rattle.flows.specs.Flow.{FlowModel}
 use Rattle.flows.specs.FlowFormat.{passes}
 use Rattle.promises.specs.Promises.{den, over, before, rates, bursts, goes, windowed, promise, port_need, regulator_need}
-use Rattle.promises.specs.Loads.{LoadModel, no_load, load_with, load_of, pair_of, pair_at, load_promise, total}
+use Rattle.promises.specs.Loads.{LoadModel, no_load, load_with, load_of, pair_of, load_promise, total}
 use Rattle.promises.specs.Laws.{Classed, Kept, PairsOf}
 use Rattle.promises.proofs.SumLaws.{Sized, sized_with, sized_none, kept-bursts}
 use Rattle.promises.proofs.PromiseLaws.{sums_kept, total-none}

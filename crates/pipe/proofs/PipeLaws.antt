@@ -1,7 +1,7 @@
 -- A regulator costs nothing. Assumes nothing.
 use Rattle.std.proofs.Common.{◌≡◌, ℕ, ◌+◌, ◌<◌, ◌≤◌, List, [], ◌∷◌, ◌++◌, Some, None, Option, sym, refl, subst, inl, inr, arith}
 use Rattle.std.specs.List.{AllByRecursion as Each}
-use Rattle.std.proofs.ByRecursion.{Each-weaker}
+use Rattle.std.proofs.ByRecursion.{All-weaker}
 use Rattle.flows.specs.Flow.{FlowModel}
 use Rattle.pipe.specs.Pipe.{Packet, Passed, PipeModel, Step, enters, comes, passes, ticks, Run, begins, goes, ticked}
 use Rattle.pipe.specs.Laws.{OneOf, NoLonger, CostsNothing, WithinBound, NobodyDue, NextRegular, PipeLaws}
@@ -65,7 +65,7 @@ waits_in bound now (w ∷ ws) gs high rising front due came gone = (first, rest 
 
     rest : (o : Option ℕ) → w.came ≡ o → Each (HasTime bound now) ws
     rest None away =
-        Each-weaker Away (HasTime bound now) (λ v none t come. let z : ◌≡◌ {A = ℕ} 0 1 = cc in absurd (omega arith)) ws (front.0 away)
+        All-weaker Away (HasTime bound now) (λ v none t come. let z : ◌≡◌ {A = ℕ} 0 1 = cc in absurd (omega arith)) ws (front.0 away)
     rest (Some t) come = after_first bound now w.sent ws high (first t come) rising.1
 
 pub within_bound : WithinBound
@@ -77,7 +77,7 @@ within_bound fs s bound run came =
 
 pub nobody_due : NobodyDue
 nobody_due fs s bound run came may =
-    Each-weaker (HasTime bound (s.now + 1)) (λ w. (t : ℕ) → w.came ≡ Some t → s.now < w.sent + bound) (λ w time t come. omega (arith, time t come))
+    All-weaker (HasTime bound (s.now + 1)) (λ w. (t : ℕ) → w.came ≡ Some t → s.now < w.sent + bound) (λ w time t come. omega (arith, time t come))
     s.pipe (within_bound fs (ticked s) bound (goes run (ticks may refl)) (record { waits = came.waits; gone = came.gone })).1
 
 pub next-regular : NextRegular

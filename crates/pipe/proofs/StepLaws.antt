@@ -1,11 +1,11 @@
 -- What every step of a pipe keeps. Assumes nothing.
-use Rattle.std.proofs.Common.{◌≡◌, ℕ, ◌+◌, ◌-◌, ◌*◌, ◌<◌, ◌≤◌, ◌⊎◌, List, [], ◌∷◌, map, length, get_or, set, None, refl, ◌∙◌, subst, inl, inr, mul-zero, arith, length-set, get_or-set_other, get_or-set_same}
+use Rattle.std.proofs.Common.{◌≡◌, ℕ, ◌+◌, ◌-◌, ◌*◌, ◌<◌, ◌≤◌, ◌⊎◌, List, [], ◌∷◌, map, length, get_or, set, refl, ◌∙◌, subst, inl, inr, mul-zero, arith, length-set, get_or-set_other, get_or-set_same}
 use lib.ListN.{length-map}
 use Rattle.std.proofs.lemmas.Bool.{cases_lt, cases_eq}
 use Rattle.flows.specs.Flow.{FlowModel}
 use Rattle.promises.specs.Promises.{den}
 use Rattle.port.specs.Port.{Level, full, flow_at}
-use Rattle.pipe.specs.Pipe.{Packet, Passed, PipeModel, MayEnter, MayCome, MayPass, MayTick, empty, entrant, entered, met, left, ticked, lack_with, level_with}
+use Rattle.pipe.specs.Pipe.{Packet, Passed, PipeModel, MayEnter, MayCome, MayPass, MayTick, empty, entrant, entered, met, left, ticked, level_with}
 use Rattle.pipe.specs.Laws.{OneOf, NoLonger}
 use Rattle.pipe.proofs.LevelLaws.{full_at, Behind, behind_later, behind-then}
 use Rattle.pipe.proofs.LineLaws.{one_weaker, carried, Carries, Chain, chain_push, chain-comes, Rising, rising_from, rising_to, rising_ends, rising_push, rising_comes, Front, front_push, front_comes, Due, due_push, due-comes, due-next}

@@ -1,5 +1,5 @@
 -- The run in which a promise is met to the tick. Assumes nothing.
-use Rattle.std.proofs.Common.{◌≡◌, ℕ, ◌<◌, [], ◌∷◌, Some, refl, subst, arith}
+use Rattle.std.proofs.Common.{◌≡◌, ℕ, ◌<◌, [], Some, refl, subst, arith}
 use Rattle.flows.specs.FlowFormat.{passes as stands}
 use Rattle.promises.specs.Promises.{bursts, before, long}
 use Rattle.promises.specs.Examples.{two_classes}

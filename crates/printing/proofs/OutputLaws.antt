@@ -1,6 +1,6 @@
 -- What is printed, record by record and line by line. Assumes nothing.
-use Rattle.std.proofs.Common.{◌≡◌, ℕ, List, [], ◌∷◌, ◌++◌, get_or, drop, Some, None, codes, Option, sym, refl, ap, ◌∙◌, append_assoc, append-nil, MatchOption}
-use Rattle.record_bytes.specs.Row.{Extent, Next, finished, found, next_record, row}
+use Rattle.std.proofs.Common.{◌≡◌, ℕ, List, [], ◌∷◌, ◌++◌, get_or, drop, Some, None, codes, Option, sym, ap, ◌∙◌, append_assoc, append-nil, MatchOption}
+use Rattle.record_bytes.specs.Row.{Extent, finished, found, next_record, row}
 use Rattle.record_bytes.proofs.Row.{row_next, row_end}
 use Rattle.admission.specs.Plans.{PlanModel}
 use Rattle.script.specs.declared.line.Line.{Line}
@@ -8,7 +8,7 @@ use Rattle.printing.specs.declared.printout.Printout.{Printout}
 use Rattle.script.specs.Lines.{port_text, ports_text}
 use Rattle.script.specs.Session.{Standing, Done, step, after_all, closing}
 use Rattle.printing.specs.Output.{printed, printed_all, output_from}
-use Rattle.printing.specs.Parts.{to_come, still_to_come, Told}
+use Rattle.printing.specs.Parts.{to_come, still_to_come}
 
 module _ (plan : PlanModel) (text after whole : List ℕ) where
   -- the line of a record is printed

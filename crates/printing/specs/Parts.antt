@@ -1,5 +1,5 @@
 -- What is still to come of a text that is printed in parts. Assumes nothing.
-use Rattle.std.specs.Prelude.{◌≡◌, ℕ, ◌+◌, List, [], ◌∷◌, ◌++◌, length, Some, None, string_bytes, Option, MatchOption}
+use Rattle.std.specs.Prelude.{◌≡◌, ℕ, ◌+◌, List, [], ◌++◌, length, Some, None, string_bytes, Option, MatchOption}
 use Rattle.record_bytes.specs.Row.{row}
 use Rattle.printing.specs.declared.printout.Printout.{Printout}
 use Rattle.printing.specs.declared.printout.Part.{Part}

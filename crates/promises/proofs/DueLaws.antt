@@ -1,6 +1,5 @@
 -- Dues along a road, port by port. Assumes nothing.
 use Rattle.std.proofs.Common.{◌≡◌, ℕ, ◌+◌, ◌<◌, ◌≤◌, List, [], ◌∷◌, ◌++◌, length, get_or, take, drop, set, Some, None, Option, sym, refl, ap, ◌∙◌, append_assoc, arith}
-use Rattle.std.specs.Option.{option_map}
 use Rattle.std.proofs.lemmas.List.{take_more_set, append-nil, at_drop_more, at_drop_all}
 use Rattle.flows.specs.Net.{NetModel, port_at}
 use Rattle.promises.specs.Loads.{LoadModel, loads_promise, behind_due, loads_dues}

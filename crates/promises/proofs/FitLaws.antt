@@ -1,7 +1,7 @@
 -- Sums over at most 256 flows fit 32 bits. Assumes nothing.
 use Rattle.std.proofs.Common.{◌≡◌, ℕ, zero, suc, ◌+◌, ◌*◌, ◌<◌, ◌≤◌, Bool, true, false, cond, ltb, List, [], ◌∷◌, length, get_or, set, replicate, Some, sym, refl, ap, ◌∙◌, subst, arith}
 use Rattle.std.specs.List.{AllByRecursion as Each}
-use Rattle.std.proofs.ByRecursion.{Each-weaker}
+use Rattle.std.proofs.ByRecursion.{All-weaker}
 use Rattle.std.proofs.lemmas.List.{get_or-set_other}
 use Rattle.std.proofs.lemmas.Bool.{and_from, lt-ltb}
 use Rattle.flows.specs.Flow.{FlowModel, Once}
@@ -96,7 +96,7 @@ along_fits f (p ∷ ps) ts bounded once within =
 pub sums_fit_lem : SumsFit
 sums_fit_lem ts fs f bounded fits once known few kept =
     along_fits f f.road ts fits once
-    (Each-weaker (λ p. p < 64) (λ p. Within 255 (get_or ts p no_load))
+    (All-weaker (λ p. p < 64) (λ p. Within 255 (get_or ts p no_load))
     (λ p h. subst (Within 255) (sym (kept p h)) (within_more (0 + length fs) 255 _ (omega arith) (load_within p 0 no_load fs bounded within_none)))
     f.road known)
 
@@ -130,7 +130,7 @@ between_fits f (p ∷ q ∷ ps) tables bounded once known within =
 pub pairs_fit_lem : PairsFit
 pairs_fit_lem tables fs f bounded fits once known few kept =
     between_fits f f.road tables fits once known
-    (Each-weaker (λ p. p < 64) (FromWithin tables)
+    (All-weaker (λ p. p < 64) (FromWithin tables)
     (λ p a q b.
     subst (Within 255) (sym (kept p q a b)) (within_more (0 + length fs) 255 _ (omega arith) (pair_within p q 0 no_load fs bounded within_none)))
     f.road known)

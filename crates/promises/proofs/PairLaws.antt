@@ -1,10 +1,10 @@
 -- A flow more along a road, from each port to the next. Assumes nothing.
-use Rattle.std.proofs.Common.{◌≡◌, ℕ, suc, ◌+◌, ◌-◌, ◌<◌, ◌≤◌, Bool, true, false, cond, ◌&&◌, ◌||◌, eqb, ◌⊎◌, List, [], ◌∷◌, ◌++◌, length, get_or, drop, set, Some, None, Option, sym, refl, ap, ◌∙◌, subst, inl, inr, arith, length-drop}
+use Rattle.std.proofs.Common.{◌≡◌, ℕ, ◌+◌, ◌-◌, ◌<◌, ◌≤◌, Bool, true, false, cond, ◌&&◌, ◌||◌, eqb, ◌⊎◌, List, [], ◌∷◌, ◌++◌, length, get_or, drop, set, Some, None, Option, sym, refl, ap, ◌∙◌, subst, inl, inr, arith}
 use Rattle.std.proofs.lemmas.List.{drop_more, get_or-set_same, get_or-set_other, length-set}
 use Rattle.flows.specs.Flow.{FlowModel}
 use Rattle.promises.specs.Loads.{LoadModel, no_load, load_with, load_fits, pair_of, pair_at, put_pair, pairs_with}
 use Rattle.promises.specs.Promises.{goes}
-use Rattle.promises.specs.Laws.{Squared, PairsOf, PairsKept}
+use Rattle.promises.specs.Laws.{Squared, PairsKept}
 use Rattle.flows.specs.Flow.{Once}
 use Rattle.std.specs.List.{AllByRecursion as Each}
 use Rattle.std.proofs.lemmas.Bool.{or_from, and_left, ne_eqb, eqb-true, eqb-false, cases_eq, cond-false}

@@ -1,13 +1,13 @@
 -- Laws of promises. Assumes nothing.
-use Rattle.std.proofs.Common.{◌≡◌, ℕ, zero, suc, ◌+◌, ◌-◌, ◌*◌, ◌/◌, ◌<◌, ◌≤◌, max, Bool, true, false, cond, ◌&&◌, ltb, leb, ◌⊎◌, List, [], ◌∷◌, ◌++◌, length, get_or, take, drop, replicate, Some, None, Option, sym, refl, ap, ◌∙◌, ap₂, inl, inr, zero-add, div-mul-le_self, arith}
+use Rattle.std.proofs.Common.{◌≡◌, ℕ, zero, suc, ◌+◌, ◌-◌, ◌*◌, ◌/◌, ◌<◌, ◌≤◌, max, List, [], ◌∷◌, ◌++◌, length, get_or, take, drop, replicate, Some, refl, ap, ◌∙◌, inl, inr, zero-add, div-mul-le_self, arith}
 use Rattle.std.specs.List.{AllByRecursion as Each}
 use Rattle.std.proofs.lemmas.Nat.{mul-le, le-div}
 use Rattle.std.proofs.lemmas.Bool.{cases_lt, cases_Bool, lt-ltb, le-ltb, le-leb, lt-leb}
 use Rattle.flows.specs.Net.{NetModel, port_at}
 use Rattle.flows.specs.Flow.{FlowModel}
-use Rattle.promises.specs.Promises.{den, over, bursts, before, long, promise, queue_need, port_need, dues, due_over, goes, windowed}
-use Rattle.promises.specs.Loads.{LoadModel, no_load, load_of, total, largest, load_before, load_bursts, load_long, load_promise, loads_promise, behind_due, loads_dues}
-use Rattle.promises.specs.Laws.{Classed, Holding, SumsKept, NeverShorter, PortCovers, DuesKept, LastIsDue, PromiseLaws}
+use Rattle.promises.specs.Promises.{den, over, bursts, before, long, promise, dues, due_over, goes, windowed}
+use Rattle.promises.specs.Loads.{no_load, load_of, total, largest, load_before, load_bursts, load_long, loads_promise, behind_due, loads_dues}
+use Rattle.promises.specs.Laws.{Classed, SumsKept, NeverShorter, PortCovers, DuesKept, LastIsDue, PromiseLaws}
 use Rattle.promises.specs.Examples.{WorkedExamples}
 use Rattle.flows.specs.FlowFormat.{passes}
 use Rattle.promises.proofs.TableLaws.{table_kept}

@@ -1,15 +1,15 @@
 -- A flow more along a road, port by port. Assumes nothing.
-use Rattle.std.proofs.Common.{◌≡◌, ℕ, ◌+◌, ◌<◌, Bool, true, false, cond, ◌&&◌, ◌||◌, eqb, ltb, ◌⊎◌, List, [], ◌∷◌, ◌++◌, length, get_or, set, Some, None, Option, sym, refl, ap, ◌∙◌, subst, inl, inr, arith}
+use Rattle.std.proofs.Common.{◌≡◌, ℕ, ◌<◌, Bool, true, false, cond, ◌||◌, eqb, List, [], ◌∷◌, ◌++◌, length, get_or, set, Some, None, Option, sym, refl, ap, ◌∙◌, subst, inl, inr, arith}
 use Rattle.flows.specs.Flow.{FlowModel}
 use Rattle.promises.specs.Loads.{LoadModel, no_load, load_with, load_of, load_fits, loads_with}
 use Rattle.promises.specs.Promises.{over}
-use Rattle.promises.specs.Laws.{Kept, TableKept}
+use Rattle.promises.specs.Laws.{TableKept}
 use Rattle.flows.specs.Flow.{Once}
 use Rattle.flows.specs.FlowFormat.{passes}
 use Rattle.std.specs.List.{AllByRecursion as Each}
 use Rattle.std.proofs.lemmas.List.{get_or-set_same, get_or-set_other, length-set}
-use Rattle.std.proofs.ByRecursion.{Each-weaker}
-use Rattle.std.proofs.lemmas.Bool.{or_from, ne_eqb, eq-eqb, eqb-true, eqb-false, cases_Bool, cond-false}
+use Rattle.std.proofs.ByRecursion.{All-weaker}
+use Rattle.std.proofs.lemmas.Bool.{or_from, ne_eqb, eqb-true, eqb-false, cases_Bool, cond-false}
 
 module _ (f : FlowModel) (p : ℕ) (ps : List ℕ) (ts : List LoadModel) (t : LoadModel) (whole : Option (List LoadModel)) where
   -- t is what is asked of the port so far
@@ -64,7 +64,7 @@ along_places f (p ∷ ps) ts us once known e q =
     size = length-set ts p (load_with (get_or ts p no_load) f)
 
     still : Each (λ r. r < length next) ps
-    still = Each-weaker (λ r. r < length ts) (λ r. r < length next) (λ r h. rw size h) ps known.1
+    still = All-weaker (λ r. r < length ts) (λ r. r < length next) (λ r h. rw size h) ps known.1
 
     Goal : Bool → Type 0
     Goal t = get_or us q no_load ≡ cond (t || passes q ps) (load_with (get_or ts q no_load) f) (get_or ts q no_load)
@@ -96,7 +96,7 @@ along_places f (p ∷ ps) ts us once known e q =
 
 pub table_kept : TableKept
 table_kept ts us fs f size once known kept got q within =
-    let all : Each (λ p. p < length ts) f.road = Each-weaker (λ p. p < 64) (λ p. p < length ts) (λ p h. rw size h) f.road known in
+    let all : Each (λ p. p < length ts) f.road = All-weaker (λ p. p < 64) (λ p. p < length ts) (λ p h. rw size h) f.road known in
     along_places f f.road ts us once all got q
     ∙ ap (λ t. cond (over q f) (load_with t f) t) (kept q within)
     ∙ sym (load_push q no_load fs f)

@@ -2,7 +2,7 @@
 use Rattle.std.specs.Prelude.{◌≡◌, ℕ, List, [], ◌∷◌}
 use Rattle.flows.specs.Net.{NetModel}
 use Rattle.flows.specs.Flow.{FlowModel}
-use Rattle.promises.specs.Promises.{promise, due, dues, port_need, queue_need, regulator_need, rates}
+use Rattle.promises.specs.Promises.{promise, due, port_need, regulator_need, rates}
 
 -- two classes at one port: bursts of 3 and 5, rates of 400,000 and 500,000, longest packets of 3 and 4
 abbrev pub two_classes : List FlowModel

@@ -1,5 +1,5 @@
 -- What ports promise, what flows are due, and what memory this needs: computed from net and flows alone. Assumes nothing.
-use Rattle.std.specs.Prelude.{ℕ, zero, suc, ◌+◌, ◌-◌, ◌*◌, ◌/◌, max, Bool, true, false, cond, ◌&&◌, ◌||◌, List, [], ◌∷◌, length, ◌==◌, nat_le, nat_lt}
+use Rattle.std.specs.Prelude.{ℕ, ◌+◌, ◌-◌, ◌*◌, ◌/◌, max, Bool, false, cond, ◌&&◌, ◌||◌, List, [], ◌∷◌, ◌==◌, nat_le, nat_lt}
 use Rattle.flows.specs.Net.{NetModel, port_at}
 use Rattle.flows.specs.Flow.{FlowModel}
 use Rattle.flows.specs.FlowFormat.{passes}

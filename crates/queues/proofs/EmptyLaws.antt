@@ -1,5 +1,5 @@
 -- Queues with no packet, and what waits in queues. Assumes nothing.
-use Rattle.std.proofs.Common.{◌≡◌, ℕ, zero, suc, ◌+◌, ◌-◌, ◌<◌, ◌≤◌, min, cond, ltb, ◌⊎◌, List, [], ◌∷◌, length, get_or, replicate, sym, refl, ap, ◌∙◌, subst, inl, inr, zero-add, add-one, arith}
+use Rattle.std.proofs.Common.{◌≡◌, ℕ, zero, suc, ◌+◌, ◌<◌, ◌≤◌, min, cond, ltb, ◌⊎◌, List, [], ◌∷◌, get_or, replicate, sym, refl, ap, ◌∙◌, subst, inl, inr, zero-add, add-one, arith}
 use Rattle.std.specs.List.{AllByRecursion as Each}
 use Rattle.std.proofs.lemmas.List.{get_or-replicate}
 use Rattle.std.proofs.lemmas.Bool.{cases_eq, cases_lt, lt-ltb, le-ltb}
@@ -7,7 +7,7 @@ use Rattle.lines.specs.declared.packet.Packet.{Packet}
 use Rattle.queues.specs.declared.cell.Cell.{Cell}
 use Rattle.queues.specs.declared.queues_of.Queues.{Queues}
 use Rattle.queues.specs.Lines.{ticks_of, sum_to, ticks_in}
-use Rattle.queues.specs.Held.{next_at, places, chain, last_of, occurs, waits, size, Holds}
+use Rattle.queues.specs.Held.{next_at, places, chain, last_of, occurs, size, Holds}
 use Rattle.queues.proofs.ChainLaws.{occurs_here, occurs_other, sum_same, sum_over_lem}
 use Rattle.queues.proofs.PutLaws.{ticks-few}
 

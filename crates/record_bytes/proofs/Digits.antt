@@ -1,5 +1,5 @@
 -- Numbers and their bytes are one another's inverse. Assumes nothing.
-use Rattle.std.proofs.Common.{◌≡◌, ℕ, zero, suc, ◌+◌, ◌*◌, ◌/◌, ◌%◌, ◌^◌, ◌<◌, ◌≤◌, List, [], ◌∷◌, ◌++◌, length, get_or, take, drop, sym, refl, ap, ◌∙◌, mod-lt, mod-eq_of_lt, mul_assoc, div-lt_iff_lt-mul, add-mul, pow-suc, div-add-mod', add-one, arith}
+use Rattle.std.proofs.Common.{◌≡◌, ℕ, zero, suc, ◌+◌, ◌*◌, ◌/◌, ◌%◌, ◌^◌, ◌<◌, ◌≤◌, List, [], ◌∷◌, ◌++◌, length, get_or, take, sym, refl, ap, mod-lt, mod-eq_of_lt, mul_assoc, div-lt_iff_lt-mul, add-mul, pow-suc, div-add-mod', add-one, arith}
 use native.Mathlib.Nat.{mul-add-mod_self_right, pow-zero, pow-succ'}
 use Rattle.std.proofs.lemmas.List.{length_push, take_more}
 use Rattle.std.specs.List.{AllByRecursion as Each}

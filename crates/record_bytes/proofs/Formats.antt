@@ -1,8 +1,8 @@
 -- What holds of a format follows from what holds of its parts. Assumes nothing.
-use Rattle.std.proofs.Common.{◌≡◌, ℕ, ◌+◌, Bool, true, false, List, [], ◌∷◌, ◌++◌, length, sym, refl, ap, ◌∙◌, subst, arith}
+use Rattle.std.proofs.Common.{◌≡◌, ℕ, ◌+◌, true, false, List, [], ◌++◌, length, refl, ap, ◌∙◌, subst, arith}
 use Rattle.std.specs.List.{AllByRecursion as Each}
 use Rattle.std.proofs.lemmas.List.{append-nil, nil_from_length}
-use Rattle.record_bytes.specs.Reading.{Cursor, Outcome, read, fault, Verdict, accepted, refused, and_then, closed, start}
+use Rattle.record_bytes.specs.Reading.{Cursor, Outcome, read, accepted, closed, start}
 use Rattle.record_bytes.specs.Numbers.{IsByte}
 use Rattle.record_bytes.specs.Format.{Format}
 use Rattle.record_bytes.proofs.Sequence.{closed-accepted}

@@ -1,12 +1,12 @@
 -- Where records begin and end. Assumes nothing.
-use Rattle.std.proofs.Common.{◌≡◌, ℕ, zero, suc, ◌+◌, ◌-◌, ◌*◌, ◌/◌, ◌%◌, ◌^◌, ◌<◌, ◌≤◌, Bool, true, false, cond, leb, List, [], ◌∷◌, ◌++◌, length, get_or, take, drop, sym, refl, ap, ◌∙◌, subst, ap₂, append_assoc, arith, length-append, length-drop, take-append-drop}
+use Rattle.std.proofs.Common.{◌≡◌, ℕ, zero, suc, ◌+◌, ◌*◌, ◌/◌, ◌%◌, ◌<◌, ◌≤◌, Bool, true, false, cond, leb, List, [], ◌∷◌, ◌++◌, length, get_or, take, drop, sym, refl, ap, ◌∙◌, subst, arith, length-append, length-drop, take-append-drop}
 use Rattle.std.specs.List.{AllByRecursion as Each}
 use Rattle.std.proofs.ByRecursion.{All-drop}
-use Rattle.std.proofs.lemmas.List.{take_rest, take_at, drop_at, length-take-le, nil_from_length, append-nil}
+use Rattle.std.proofs.lemmas.List.{take_at, drop_at, length-take-le}
 use Rattle.std.proofs.lemmas.Bool.{le-leb, lt-leb, leb-true, leb-false}
 use Rattle.record_bytes.specs.Numbers.{value, bytes_of, IsByte}
 use Rattle.record_bytes.specs.Row.{Extent, whole_record, cut_record, Next, finished, found, next_record, row_within, row, framed, IsRow, none, more, cut_inside, cut_length, OneRow}
-use Rattle.record_bytes.proofs.Digits.{bytes_of_two, bytes_of-value, length-bytes_of, value-bytes_of, value-below}
+use Rattle.record_bytes.proofs.Digits.{bytes_of_two, bytes_of-value, length-bytes_of, value-below}
 
 size_two : (a b n : ℕ) → a * 256 + b ≡ n → value (a ∷ b ∷ []) ≡ n
 unfolding value

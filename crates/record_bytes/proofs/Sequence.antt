@@ -1,7 +1,7 @@
 -- What is known of the parts where a whole was read. Assumes nothing.
-use Rattle.std.proofs.Common.{◌≡◌, ℕ, zero, suc, ◌+◌, ◌≤◌, Bool, true, false, cond, ◌&&◌, eqb, leb, List, [], ◌∷◌, length, sym, refl, ap, subst, arith}
-use Rattle.std.proofs.lemmas.Bool.{eqb-true, eq-eqb, leb-true, and_parts}
-use Rattle.record_bytes.specs.Reading.{Cursor, Outcome, read, fault, Verdict, accepted, refused, and_then, several, closed}
+use Rattle.std.proofs.Common.{◌≡◌, ℕ, zero, suc, ◌≤◌, Bool, true, false, cond, ◌&&◌, eqb, leb, List, [], ◌∷◌, length, refl, ap, subst, arith}
+use Rattle.std.proofs.lemmas.Bool.{eqb-true, leb-true, and_parts}
+use Rattle.record_bytes.specs.Reading.{Cursor, Outcome, read, fault, accepted, refused, and_then, several, closed}
 use Rattle.record_bytes.specs.Numbers.{number, ranged}
 use Rattle.std.specs.List.{AllByRecursion as Each}
 

@@ -1,9 +1,9 @@
 -- Reading takes bytes off the front and looks at no others: where the bytes end before, the first missing one is the fault.
 -- Assumes nothing.
-use Rattle.std.proofs.Common.{◌≡◌, ℕ, ◌+◌, ◌-◌, ◌^◌, ◌<◌, ◌≤◌, Bool, true, false, cond, ◌&&◌, eqb, leb, ◌⊎◌, List, [], ◌∷◌, ◌++◌, length, take, drop, sym, refl, ap, ◌∙◌, ap₂, inl, inr, add-zero, add_assoc, zero-add, arith, length-drop}
+use Rattle.std.proofs.Common.{◌≡◌, ℕ, ◌+◌, ◌-◌, ◌<◌, ◌≤◌, Bool, true, ◌&&◌, eqb, leb, List, length, take, drop, sym, refl, ap, ◌∙◌, ap₂, inl, inr, add-zero, add_assoc, zero-add, arith, length-drop}
 use Rattle.std.proofs.lemmas.List.{length-take-le, length-take, drop-drop, drop-take, take-take}
 use Rattle.std.proofs.lemmas.Bool.{le-leb, lt-leb, leb-true, cases_lt}
-use Rattle.record_bytes.specs.Reading.{Cursor, Outcome, read, fault, Verdict, accepted, refused, ahead, and_then, closed, start}
+use Rattle.record_bytes.specs.Reading.{Cursor, Outcome, read, fault, accepted, refused, ahead, and_then, closed, start}
 use Rattle.record_bytes.specs.Numbers.{number, tested, ranged, kind_byte, value}
 use Rattle.record_bytes.proofs.Sequence.{both_read, test_passed, closed-accepted}
 

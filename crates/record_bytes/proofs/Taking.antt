@@ -1,7 +1,7 @@
 -- A reader's step is the definition's: what is taken off the front, and what is missing. Assumes nothing.
-use Rattle.std.proofs.Common.{◌≡◌, ℕ, zero, suc, ◌+◌, ◌*◌, ◌^◌, ◌<◌, ◌≤◌, Bool, true, false, leb, ◌⊎◌, List, [], ◌∷◌, length, get_or, take, drop, sym, refl, ap, inl, inr, arith}
+use Rattle.std.proofs.Common.{◌≡◌, ℕ, ◌+◌, ◌<◌, ◌≤◌, Bool, true, false, leb, ◌⊎◌, List, length, take, drop, refl, inl, inr}
 use Rattle.std.proofs.lemmas.Bool.{le-leb, lt-leb, and_from, and_left, and_right}
-use Rattle.record_bytes.specs.Reading.{Cursor, Outcome, read, fault, end_of}
+use Rattle.record_bytes.specs.Reading.{Cursor, read, fault}
 use Rattle.record_bytes.specs.Numbers.{number, tested, ranged, value}
 
 -- the front of xs as a number, and what is behind it

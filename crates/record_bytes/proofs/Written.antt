@@ -1,10 +1,10 @@
 -- Reading what was written gives the number, and a number that is read was written so. Assumes nothing.
-use Rattle.std.proofs.Common.{◌≡◌, ℕ, ◌+◌, ◌^◌, ◌<◌, ◌≤◌, Bool, true, false, cond, ◌&&◌, eqb, leb, List, [], ◌∷◌, ◌++◌, length, take, drop, sym, refl, ap, ◌∙◌, append_assoc, add-zero, arith, length-append, take-append-drop}
+use Rattle.std.proofs.Common.{◌≡◌, ℕ, ◌+◌, ◌^◌, ◌<◌, ◌≤◌, Bool, true, ◌&&◌, eqb, leb, List, [], ◌++◌, length, take, sym, refl, ap, ◌∙◌, append_assoc, add-zero, arith, length-append, take-append-drop}
 use Rattle.std.specs.List.{AllByRecursion as Each}
 use Rattle.std.proofs.lemmas.List.{take_at, drop_at, length-take-le}
 use Rattle.std.proofs.ByRecursion.{All-take, All-drop}
 use Rattle.std.proofs.lemmas.Bool.{le-leb, leb-true, eq-eqb, eqb-true, and_from, and_parts}
-use Rattle.record_bytes.specs.Reading.{Cursor, Outcome, read, fault, ahead, and_then}
+use Rattle.record_bytes.specs.Reading.{Cursor, read, ahead}
 use Rattle.record_bytes.specs.Numbers.{number, tested, ranged, kind_byte, value, bytes_of, IsByte}
 use Rattle.record_bytes.proofs.Sequence.{both_read, test_passed}
 use Rattle.record_bytes.proofs.Digits.{length-bytes_of, value-bytes_of, bytes_of-value, value-below}

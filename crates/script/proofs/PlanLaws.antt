@@ -11,13 +11,12 @@ use Rattle.records.specs.declared.stage.Stage.{Stage}
 use Rattle.records.specs.declared.stage.Stage.TheVariants as stages
 use Rattle.records.specs.declared.stage.Kind.{Kind}
 use Rattle.records.specs.declared.stage.Kind.TheVariants as kinds
-use Rattle.records.specs.Kinds.{played_kind, kind_at, kind_of}
+use Rattle.records.specs.Kinds.{played_kind, kind_of}
 use Rattle.records.specs.Records.{RecordModel, a_switch, a_net, a_flow, a_packet, an_arrival, some_ticks, record_as, judged_as}
 use Rattle.admission.specs.declared.refusal.Refusal.{Refusal}
-use Rattle.admission.specs.Plans.{PlanModel, with_flow, tested}
+use Rattle.admission.specs.Plans.{tested}
 use Rattle.admission.specs.Tests.{NumberedModel}
 use Rattle.admission.specs.Dues.{flow_numbered}
-use Rattle.script.specs.declared.line.Line.{Line}
 use Rattle.script.specs.declared.line.Line.TheVariants as lines
 use Rattle.script.specs.Session.{Standing, Done, least_switches, read_as, step_as, step, after_all, take_packet, packet_fits, arrival_fits, take_flow_as, too_much, take_ticks, last_tick, counted}
 use Rattle.script.specs.SessionLaws.{AdmittedStays, PlanSettled}

@@ -1,8 +1,6 @@
 -- The laws of what becomes of records. Assumes nothing.
-use Rattle.std.proofs.Common.{◌≡◌, ℕ, ◌+◌, Bool, true, false, cond, ◌&&◌, eqb, ltb, leb, ◌⊎◌, List, [], ◌∷◌, ◌++◌, length, Some, None, Option, sym, refl, ap, ◌∙◌, ap₂, inl, inr, arith}
-use Rattle.std.proofs.lemmas.Bool.{cases_Bool}
-use Rattle.record_bytes.specs.Reading.{Verdict, accepted, refused, Outcome, closed, start}
-use Rattle.record_bytes.specs.Row.{Extent}
+use Rattle.std.proofs.Common.{◌≡◌, ℕ, ◌+◌, Bool, true, false, cond, leb, List, Some, None, Option, refl, arith}
+use Rattle.record_bytes.specs.Reading.{Verdict, accepted, refused, Outcome, closed}
 use Rattle.record_bytes.proofs.Sequence.{closed-accepted}
 use Rattle.flows.specs.Flow.{FlowModel}
 use Rattle.flows.specs.Net.{NetModel}
@@ -16,7 +14,6 @@ use Rattle.admission.specs.Dues.{flow_numbered}
 use Rattle.script.specs.declared.line.Name.{Name}
 use Rattle.script.specs.declared.line.Cause.{Cause}
 use Rattle.script.specs.declared.line.Cause.TheVariants as causes
-use Rattle.script.specs.declared.line.Line.{Line}
 use Rattle.script.specs.declared.line.Line.TheVariants as lines
 use Rattle.script.specs.Session.{Standing, Done, name_of, fault_at, take_packet, packet_fits, arrival_fits, take_flow_as, take_net, too_much, take_ticks, last_tick, with_refused, counted, step_as, read_as, least_switches}
 use Rattle.script.specs.SessionLaws.{OnlyCounts, RefusedOnlyCounts, CutIsRefused}

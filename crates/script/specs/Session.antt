@@ -1,5 +1,5 @@
 -- What becomes of each record of a program's input. Assumes nothing.
-use Rattle.std.specs.Prelude.{◌≡◌, ℕ, ◌+◌, min, Bool, true, false, cond, not, ◌&&◌, List, [], ◌∷◌, ◌++◌, length, Some, None, Option, ◌==◌, nat_le, nat_lt}
+use Rattle.std.specs.Prelude.{ℕ, ◌+◌, min, Bool, true, false, cond, ◌&&◌, List, [], ◌∷◌, length, Some, None, Option, ◌==◌, nat_le, nat_lt}
 use Rattle.record_bytes.specs.Reading.{Verdict, accepted, refused}
 use Rattle.record_bytes.specs.Row.{Extent}
 use Rattle.record_bytes.specs.declared.fault.Fault.{Fault}
@@ -16,8 +16,6 @@ use Rattle.records.specs.declared.stage.Stage.{Stage}
 use Rattle.records.specs.declared.stage.Stage.TheVariants as stages
 use Rattle.records.specs.declared.record.Packet.{Packet}
 use Rattle.records.specs.declared.record.Arrival.{Arrival}
-use Rattle.records.specs.declared.record.Ticks.{Ticks}
-use Rattle.records.specs.declared.record.Switch.{Switch}
 use Rattle.records.specs.Records.{RecordModel, a_switch, a_net, a_flow, a_packet, an_arrival, some_ticks, record_here}
 use Rattle.script.specs.declared.line.Name.{Name}
 use Rattle.script.specs.declared.line.Name.TheVariants as names

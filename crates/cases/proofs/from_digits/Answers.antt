@@ -1,4 +1,4 @@
-use Rattle.std.proofs.Common.{◌≡◌, ◌++◌, length, drop, vec_items, sym, refl, ap, ◌∙◌, arith, length-drop}
+use Rattle.std.proofs.Common.{◌++◌, vec_items, ap, arith, length-drop}
 use Rattle.std.proofs.lemmas.List.{take_rest}
 use Rattle.cases.specs.Digits.{spelled}
 use Rattle.cases.proofs.SpelledLaws.{spelled_on, spelled_all}

@@ -1,4 +1,4 @@
-use Rattle.std.proofs.Common.{◌≡◌, ltb, length, sym, refl, ap, ◌∙◌}
+use Rattle.std.proofs.Common.{length, refl}
 use lib.ListN.{length-map}
 use Rattle.std.proofs.lemmas.Bool.{lt-ltb, le-ltb}
 use Rattle.admission.specs.Models.{numbered_model}

@@ -1,4 +1,3 @@
-use Rattle.std.proofs.Common.{◌≡◌}
 use Rattle.admission.specs.Lowest.{lowest}
 use Rattle.admission.proofs.LowestLaws.{Looks}
 use Rattle.promises.specs.Models.{loads_model}

@@ -1,4 +1,4 @@
-use Rattle.std.proofs.Common.{◌≡◌, ◌+◌, ◌≤◌, drop}
+use Rattle.std.proofs.Common.{◌≡◌, drop}
 use Rattle.flows.specs.NetFormat.{needed}
 use Rattle.flows.proofs.read_net.switches_needed.Given as goal
 

@@ -1,4 +1,3 @@
-use Rattle.std.proofs.Common.{◌≡◌, sym, refl, ◌∙◌}
 use Rattle.flows.proofs.RoadLaws.{joins-first, joins-last}
 use Rattle.flows.proofs.road.follows.Goals as goal
 

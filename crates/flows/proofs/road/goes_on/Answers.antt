@@ -1,5 +1,3 @@
-use Rattle.std.proofs.Common.{◌≡◌, sym, refl, ◌∙◌, arith}
-use Rattle.std.proofs.lemmas.Bool.{ltb-false}
 use Rattle.flows.proofs.LeadLaws.{leads_exactly, goes_none, goes_first}
 use Rattle.flows.proofs.road.goes_on.Goals as goal
 

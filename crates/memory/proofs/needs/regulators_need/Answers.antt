@@ -1,4 +1,4 @@
-use Rattle.std.proofs.Common.{◌≡◌, ℕ, ◌+◌, sym, refl, ap, ◌∙◌, ap₂, add-one, arith}
+use Rattle.std.proofs.Common.{◌+◌, sym, refl, ap, ◌∙◌, ap₂, add-one, arith}
 use Rattle.promises.specs.Models.{loads_model, pairs_model}
 use Rattle.memory.specs.Needs.{regulator_needs, class_needs}
 use Rattle.memory.proofs.needs.regulators_need.Goals as goal

@@ -1,4 +1,4 @@
-use Rattle.std.proofs.Common.{◌≤◌, refl, arith}
+use Rattle.std.proofs.Common.{refl, arith}
 use Rattle.std.proofs.lemmas.Nat.{mul-le}
 use Rattle.memory.proofs.NeedLaws.{needs_kept}
 use Rattle.memory.proofs.GrowthLaws.{growth_laws}

@@ -1,4 +1,4 @@
-use Rattle.std.proofs.Common.{◌≡◌, ◌+◌, cond, eqb, [], ◌∷◌, ◌++◌, length, get_or, drop, string_bytes, codes, sym, refl, ap, ◌∙◌, append-nil, add-zero, arith}
+use Rattle.std.proofs.Common.{◌+◌, cond, eqb, ◌++◌, get_or, drop, string_bytes, codes, sym, ap, ◌∙◌, append-nil, add-zero, arith}
 use Rattle.std.proofs.lemmas.List.{at_drop_more, at_drop_all, drop-drop, get_or-drop}
 use Rattle.std.proofs.lemmas.Bool.{ne_eqb}
 use Rattle.script.specs.Lines.{ports_text}

@@ -1,4 +1,4 @@
-use Rattle.std.proofs.Common.{◌≡◌, ◌++◌, string_bytes, sym, refl, ap, ◌∙◌, append-nil}
+use Rattle.std.proofs.Common.{◌++◌, string_bytes, sym, ◌∙◌, append-nil}
 use Rattle.std.proofs.lemmas.List.{at_drop_more, at_drop_all}
 use Rattle.script.specs.declared.line.Line.TheVariants.{Silent}
 use Rattle.admission.specs.Plans.{plan_of}

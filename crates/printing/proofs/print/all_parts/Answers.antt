@@ -1,4 +1,4 @@
-use Rattle.std.proofs.Common.{◌≡◌, ◌++◌, Some, string_bytes, sym, refl, ap, ◌∙◌, append_assoc, append-nil}
+use Rattle.std.proofs.Common.{◌≡◌, ◌++◌, Some, string_bytes, sym, ap, ◌∙◌, append_assoc, append-nil}
 use Rattle.printing.specs.Parts.{still_to_come}
 use Rattle.printing.proofs.OutputLaws.{told_on}
 use Rattle.printing.proofs.print.all_parts.Goals as goal

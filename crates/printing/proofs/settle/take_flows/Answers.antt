@@ -1,4 +1,4 @@
-use Rattle.std.proofs.Common.{◌≡◌, sym, refl, ap, ◌∙◌}
+use Rattle.std.proofs.Common.{sym, ap, ◌∙◌}
 use Rattle.record_bytes.proofs.Row.{next-shorter}
 use Rattle.record_bytes.specs.Row.{row}
 use Rattle.script.specs.Models.{standing}

@@ -1,11 +1,11 @@
-use Rattle.std.proofs.Common.{◌≡◌, map, box_value, sym, refl, ap, ◌∙◌}
+use Rattle.std.proofs.Common.{map, box_value, ap, ◌∙◌}
 use Rattle.flows.specs.Models.{net_of}
 use Rattle.promises.specs.Models.{loads_model, pairs_model}
 use Rattle.admission.specs.Models.{numbered_model}
 use Rattle.admission.specs.Rules.{flows_of}
 use Rattle.admission.specs.Sound.{keeps_loads, keeps_pairs, all_roads, passes_all}
 use Rattle.admission.proofs.KeepLaws.{none_loads, none-pairs}
-use Rattle.admission.proofs.PlanLaws.{none_passes, sums_told, judged-more}
+use Rattle.admission.proofs.PlanLaws.{none_passes}
 use Rattle.admission.proofs.plan.Plan.empty.Goals as goal
 
 pub invariant_of-result : goal.invariant_of-result

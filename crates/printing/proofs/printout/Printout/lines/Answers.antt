@@ -1,4 +1,4 @@
-use Rattle.std.proofs.Common.{◌≡◌, ℕ, ◌++◌, string_bytes, sym, refl, ap, ◌∙◌, arith}
+use Rattle.std.proofs.Common.{◌≡◌, ℕ, ◌++◌, string_bytes, sym, ap, ◌∙◌, arith}
 use Rattle.record_bytes.proofs.Row.{next-shorter}
 use Rattle.admission.specs.Plans.{plan_of}
 use Rattle.script.specs.Models.{standing}

@@ -1,4 +1,4 @@
-use Rattle.std.proofs.Common.{◌≡◌, ℕ, ◌+◌, ◌*◌, ◌≤◌, length, get_or, set, sym, refl, ap, ◌∙◌, subst, arith, length-set}
+use Rattle.std.proofs.Common.{◌≡◌, ℕ, ◌+◌, get_or, set, sym, ap, ◌∙◌, subst, arith, length-set}
 use Rattle.flows.specs.Net.{port_at}
 use Rattle.flows.specs.Models.{net_of}
 use Rattle.promises.specs.Loads.{loads_dues}

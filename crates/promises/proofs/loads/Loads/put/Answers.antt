@@ -1,4 +1,4 @@
-use Rattle.std.proofs.Common.{◌≡◌, ◌≤◌, map, length, sym, ◌∙◌, arith}
+use Rattle.std.proofs.Common.{◌≤◌, map, length, sym, arith}
 use lib.ListN.{length-map}
 use Rattle.std.proofs.lemmas.List.{map-set, set_past}
 use Rattle.promises.specs.Models.{load_model}

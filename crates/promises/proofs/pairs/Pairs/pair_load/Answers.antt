@@ -1,8 +1,8 @@
-use Rattle.std.proofs.Common.{◌≡◌, ◌<◌, ◌≤◌, List, [], map, length, get_or, sym, ap, ◌∙◌, arith}
+use Rattle.std.proofs.Common.{◌<◌, ◌≤◌, List, [], map, length, get_or, sym, ap, ◌∙◌, arith}
 use lib.ListN.{length-map}
 use Rattle.std.proofs.lemmas.List.{get_or-map, get_or_past}
 use Rattle.promises.specs.Loads.{LoadModel, no_load}
-use Rattle.promises.specs.Models.{load_model, loads_model}
+use Rattle.promises.specs.Models.{loads_model}
 use Rattle.promises.proofs.pairs.Pairs.pair_load.Goals as goal
 
 pub returns-then-place-lt64 : goal.returns-then-place-lt64
