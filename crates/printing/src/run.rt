@@ -1,17 +1,11 @@
 // A program as it is run: standard input whole, lines to standard output, and a message on standard error where it fails.
 use super::printout::Printout;
+use anyhow::Context;
 use records::stage::Program;
 use std::io::{BufWriter, Read, Write};
 
 pub fn run(rt: &HostRuntime, program: Program) -> anyhow::Result<()> {
-    match read_and_print(rt, program) {
-        Ok(()) => Ok(()),
-        Err(error) => {
-            let name = name_of(program);
-            eprintln!(rt; "{name}: {error}")?;
-            Err(error)
-        }
-    }
+    read_and_print(rt, program).context(name_of(program))
 }
 
 fn name_of(program: Program) -> &'static str {
