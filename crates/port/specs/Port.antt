@@ -1,5 +1,5 @@
 -- One port: how packets pass into its queues, are taken and sent, and leave. Assumes nothing.
-use Rattle.std.specs.Prelude.{◌≡◌, ℕ, zero, suc, ◌+◌, ◌-◌, ◌*◌, ◌<◌, ◌≤◌, true, cond, List, [], ◌∷◌, ◌++◌, map, length, set, replicate, Some, None, Option, ◌==◌, slice_index_or, slice_set}
+use Rattle.std.specs.Prelude.{◌≡◌, ℕ, zero, suc, ◌+◌, ◌-◌, ◌*◌, ◌<◌, ◌≤◌, true, cond, List, [], ◌∷◌, ◌++◌, map, length, replicate, Some, None, Option, ◌==◌, slice_index_or, slice_set}
 use Rattle.flows.specs.Flow.{FlowModel}
 use Rattle.promises.specs.Promises.{den, over}
 
@@ -71,11 +71,11 @@ passed fs s k len =
     record {
       now = s.now;
       queues =
-          set s.queues (flow_at fs k).class
+          slice_set s.queues (flow_at fs k).class
           (queue_of s.queues (flow_at fs k).class ++ record { flow = k; len = len; into = s.now } ∷ []);
       sending = s.sending;
       levels =
-          set s.levels k
+          slice_set s.levels k
           (record { deficit = deficit_at (flow_at fs k) (slice_index_or s.levels k full) s.now + den * len; last = s.now });
       gone = s.gone;
     }
