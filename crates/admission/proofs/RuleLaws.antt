@@ -20,7 +20,7 @@ use Rattle.memory.proofs.NeedLaws.{rates_in, rates_among, sized_of, needs_kept}
 use Rattle.admission.specs.declared.refusal.Refusal.{Refusal}
 use Rattle.admission.specs.declared.refusal.Refusal.TheVariants.{Crowded, Promised, Late, Memory}
 use Rattle.admission.specs.Lowest.{lowest}
-use Rattle.admission.specs.Tests.{NumberedModel, over_promised, late_by, is_late, first_late, is_short, first_of, crowded}
+use Rattle.admission.specs.Tests.{NumberedModel, over_promised, late_by, is_late, first_late, is_short, first_reason, crowded}
 use Rattle.admission.specs.Rules.{Routed, flows_of, switch_need, memory_of, Fits, FailsFirst, too_many, over_port, late_flow, short_switch, is_over, first_late_of, is_bare, refusal_of, JudgedByRules}
 use Rattle.admission.specs.Laws.{AdmissionLaws}
 use Rattle.admission.proofs.ExampleLaws.{worked-table}
@@ -160,10 +160,10 @@ module _ (net : NetModel) (loads : List LoadModel) (pairs : List (List LoadModel
 
 -- two lists of tests of which the first agree, and the others where the first pass
 first_same : (v : ℕ → Refusal) (x y : Option ℕ) (a b : Option Refusal) → x ≡ y → (y ≡ None → a ≡ b) →
-    first_of (option_map v x) a ≡ first_of (option_map v y) b
-first_same v x y a b same rest = ap (λ o. first_of (option_map v o) a) same ∙ by y rest
+    first_reason (option_map v x) a ≡ first_reason (option_map v y) b
+first_same v x y a b same rest = ap (λ o. first_reason (option_map v o) a) same ∙ by y rest
   where
-    by : (o : Option ℕ) → (o ≡ None → a ≡ b) → first_of (option_map v o) a ≡ first_of (option_map v o) b
+    by : (o : Option ℕ) → (o ≡ None → a ≡ b) → first_reason (option_map v o) a ≡ first_reason (option_map v o) b
     by None then = then refl
     by (Some k) then = refl
 
@@ -175,7 +175,7 @@ first_late_same net loads fs (g ∷ gs) same = ap₂ (λ x y. cond x (Some g.num
 
 judged_by_rules : JudgedByRules
 judged_by_rules net loads pairs gs few sound kept between =
-    ap (first_of (crowded (length gs)))
+    ap (first_reason (crowded (length gs)))
     (first_same Promised _ _ _ _
     (lowest_same (over_promised loads) (is_over fs) (length net.ports) 0 (λ p low port. over_same net loads pairs fs few sound kept between p (omega arith)))
     (λ none. others (room_everywhere net fs sound (none_over net fs none))))
@@ -184,8 +184,8 @@ judged_by_rules net loads pairs gs few sound kept between =
     fs = flows_of gs
 
     others : ((p : ℕ) → rates p fs ≤ den) →
-        first_of (option_map Late (first_late net loads gs)) (option_map Memory (lowest (is_short net loads pairs (length net.ports)) (length net.memories) 0)) ≡
-        first_of (option_map Late (first_late_of net fs gs)) (option_map Memory (lowest (is_bare net fs) (length net.memories) 0))
+        first_reason (option_map Late (first_late net loads gs)) (option_map Memory (lowest (is_short net loads pairs (length net.ports)) (length net.memories) 0)) ≡
+        first_reason (option_map Late (first_late_of net fs gs)) (option_map Memory (lowest (is_bare net fs) (length net.memories) 0))
     others room =
         first_same Late _ _ _ _
         (first_late_same net loads fs gs
@@ -196,11 +196,11 @@ judged_by_rules net loads pairs gs few sound kept between =
         (λ s low high. bare_same net loads pairs fs few sound kept between room s)))
 
 -- which of two refusals it is
-first-none : (a b : Option Refusal) → first_of a b ≡ None → (a ≡ None) × (b ≡ None)
+first-none : (a b : Option Refusal) → first_reason a b ≡ None → (a ≡ None) × (b ≡ None)
 first-none None b e = (refl, e)
 first-none (Some r) b e = let z : ◌≡◌ {A = ℕ} 0 1 = cc in absurd (omega arith)
 
-first_some : (a b : Option Refusal) (r : Refusal) → first_of a b ≡ Some r → (a ≡ Some r) ⊎ ((a ≡ None) × (b ≡ Some r))
+first_some : (a b : Option Refusal) (r : Refusal) → first_reason a b ≡ Some r → (a ≡ Some r) ⊎ ((a ≡ None) × (b ≡ Some r))
 first_some None b r e = inr (refl, e)
 first_some (Some x) b r e = inl e
 
@@ -293,10 +293,10 @@ module _ (net : NetModel) (gs : List NumberedModel) where
   bares = lowest (is_bare net fs) (length net.memories) 0
 
   abbrev from5 : Option Refusal
-  from5 = first_of (option_map Late lates) (option_map Memory bares)
+  from5 = first_reason (option_map Late lates) (option_map Memory bares)
 
   abbrev from4 : Option Refusal
-  from4 = first_of (option_map Promised overs) from5
+  from4 = first_reason (option_map Promised overs) from5
 
   fits-passed : refusal_of net gs ≡ None → Fits net fs
   fits-passed e =

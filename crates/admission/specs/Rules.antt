@@ -11,7 +11,7 @@ use Rattle.memory.specs.Plans.{switch_plan}
 use Rattle.admission.specs.declared.refusal.Refusal.{Refusal}
 use Rattle.admission.specs.declared.refusal.Refusal.TheVariants.{Crowded, Promised, Late, Memory}
 use Rattle.admission.specs.Lowest.{lowest}
-use Rattle.admission.specs.Tests.{NumberedModel, crowded, first_of, judged}
+use Rattle.admission.specs.Tests.{NumberedModel, crowded, first_reason, judged}
 
 -- the flows behind their numbers, in the order of admission
 abbrev pub flows_of : List NumberedModel → List FlowModel
@@ -61,9 +61,9 @@ is_bare net fs s = nat_lt (memory_of net s) (switch_need net fs s)
 -- the first test that flows fail together, in the order 7, 4, 5, 6
 abbrev pub refusal_of : NetModel → List NumberedModel → Option Refusal
 refusal_of net gs =
-    first_of (crowded (length gs))
-    (first_of (option_map Promised (lowest (is_over (flows_of gs)) (length net.ports) 0))
-    (first_of (option_map Late (first_late_of net (flows_of gs) gs))
+    first_reason (crowded (length gs))
+    (first_reason (option_map Promised (lowest (is_over (flows_of gs)) (length net.ports) 0))
+    (first_reason (option_map Late (first_late_of net (flows_of gs) gs))
     (option_map Memory (lowest (is_bare net (flows_of gs)) (length net.memories) 0))))
 
 -- flows pass all tests exactly if they fit

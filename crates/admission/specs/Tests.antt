@@ -45,9 +45,9 @@ abbrev pub is_short : NetModel → List LoadModel → List (List LoadModel) → 
 is_short net loads pairs count s = nat_lt (slice_index net.memories s) (switch_needs net loads pairs s count)
 
 -- the first of two refusals
-abbrev pub first_of : Option Refusal → Option Refusal → Option Refusal
-first_of None second = second
-first_of (Some r) second = Some r
+abbrev pub first_reason : Option Refusal → Option Refusal → Option Refusal
+first_reason None second = second
+first_reason (Some r) second = Some r
 
 -- 7: more than 256 flows
 abbrev pub crowded : ℕ → Option Refusal
@@ -56,7 +56,7 @@ crowded n = cond (nat_lt 256 n) (Some Crowded) None
 -- the first test that flows fail together, in the order 7, 4, 5, 6: for a net of so many ports and switches
 abbrev pub judged : NetModel → ℕ → ℕ → List LoadModel → List (List LoadModel) → List NumberedModel → Option Refusal
 judged net ports switches loads pairs gs =
-    first_of (crowded (length gs))
-    (first_of (option_map Promised (lowest (over_promised loads) ports 0))
-    (first_of (option_map Late (first_late net loads gs))
+    first_reason (crowded (length gs))
+    (first_reason (option_map Promised (lowest (over_promised loads) ports 0))
+    (first_reason (option_map Late (first_late net loads gs))
     (option_map Memory (lowest (is_short net loads pairs ports) switches 0))))

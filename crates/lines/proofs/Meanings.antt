@@ -16,7 +16,7 @@ use Rattle.lines.specs.Lines.{
   longer,
   pushed_line,
   pushed_cells,
-  first_of,
+  first_waiting,
   shorter,
   dropped_line,
   begin_of,
@@ -103,7 +103,7 @@ some_fits cells line some =
 
 -- what is read at its first place is the first that waits
 pub first_read : {X : Type 0} (cells : List X) (line : Line) (x : X) → some_wait (length cells) line ≡ true →
-    x ≡ get_or cells line.first x → (Some x ≡ first_of cells line) × (Some x ≡ head_of (waits cells line))
+    x ≡ get_or cells line.first x → (Some x ≡ first_waiting cells line) × (Some x ≡ head_of (waits cells line))
 first_read cells line x some read =
     let known = some_fits cells line some in
     let whole : suc (line.count - 1) ≡ line.count = omega arith in

@@ -5,7 +5,7 @@ use Rattle.std.specs.Option.{option_map}
 use Rattle.lines.specs.declared.counted.Counted.{Counted}
 use Rattle.lines.specs.declared.line.Line.{Line}
 use Rattle.lines.specs.declared.packet.Packet.{Packet}
-use Rattle.lines.specs.Lines.{waiting, waits, Fits, head_of, tail_of, some_wait, pushed_line, pushed_cells, first_of}
+use Rattle.lines.specs.Lines.{waiting, waits, Fits, head_of, tail_of, some_wait, pushed_line, pushed_cells, first_waiting}
 use Rattle.lines.specs.Ticks.{
   ticks_of,
   Counts,
@@ -77,7 +77,7 @@ module _ (counted : Counted) (packet : Packet) (fits : counted.ticks + packet.le
   push_cells cells after written = rw can written
 
 -- where there is no first, nothing waits
-none_first : (cells : List Packet) (line : Line) → None ≡ first_of cells line → some_wait (length cells) line ≡ false
+none_first : (cells : List Packet) (line : Line) → None ≡ first_waiting cells line → some_wait (length cells) line ≡ false
 none_first cells line nobody =
     elim (cases_Bool (some_wait (length cells) line)) [
       | inl some ↦
@@ -91,5 +91,5 @@ none_first cells line nobody =
       | inr none ↦ none
     ]
 
-pub drop-none : (cells : List Packet) (counted : Counted) → None ≡ first_of cells counted.line → None ≡ counted_drop cells counted
+pub drop-none : (cells : List Packet) (counted : Counted) → None ≡ first_waiting cells counted.line → None ≡ counted_drop cells counted
 drop-none cells counted nobody = let none = none_first cells counted.line nobody in rw none refl

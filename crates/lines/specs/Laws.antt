@@ -2,7 +2,7 @@
 use Rattle.std.specs.Prelude.{◌≡◌, ℕ, ◌+◌, ◌-◌, ◌≤◌, cond, List, [], ◌∷◌, ◌++◌, map, length, drop, replicate, Some, None, Option}
 use Rattle.std.specs.Option.{unwrap_or}
 use Rattle.lines.specs.declared.line.Line.{Line}
-use Rattle.lines.specs.Lines.{waits, Fits, empty_line, has_room, pushed_line, pushed_cells, first_of, dropped_line}
+use Rattle.lines.specs.Lines.{waits, Fits, empty_line, has_room, pushed_line, pushed_cells, first_waiting, dropped_line}
 
 -- a line and its cells
 pub record Queue (X : Type 0) : Type 0 where
@@ -40,7 +40,7 @@ as_list (Some x) = x ∷ []
 
 abbrev pub left : {X : Type 0} → Queue X → Step X → List X
 left q (comes value) = []
-left q goes = as_list (first_of q.cells q.line)
+left q goes = as_list (first_waiting q.cells q.line)
 
 -- and by a row of steps
 abbrev pub after_all : {X : Type 0} → Queue X → List (Step X) → Queue X

@@ -54,8 +54,8 @@ abbrev pub pushed_cells : {X : Type 0} → List X → Line → X → List X
 pushed_cells cells line value = cond (has_room (length cells) line) (slice_set cells (end_place (length cells) line) value) cells
 
 -- the first that waits
-abbrev pub first_of : {X : Type 0} → List X → Line → Option X
-first_of cells line = cond (some_wait (length cells) line) (head_of (waits cells line)) None
+abbrev pub first_waiting : {X : Type 0} → List X → Line → Option X
+first_waiting cells line = cond (some_wait (length cells) line) (head_of (waits cells line)) None
 
 -- the line without its first
 abbrev pub shorter : ℕ → Line → Line

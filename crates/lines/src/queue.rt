@@ -11,7 +11,7 @@ ghost use Rattle.lines.specs.Lines.{
   end_of,
   pushed_line,
   pushed_cells,
-  first_of,
+  first_waiting,
   dropped_line,
   begin_of,
   from_first,
@@ -40,7 +40,7 @@ impl Line {
 
     // The first that waits; None where nothing waits, or the line does not fit the cells.
     pub fn first<T: Copy>(self, cells: &[T]) -> Option<T>
-        ensures value { result ≡ first_of cells.now self }
+        ensures value { result ≡ first_waiting cells.now self }
         ensures means { Fits cells.now self → result ≡ head_of (waits cells.now self) }
     {
         self.head(cells)
@@ -101,7 +101,7 @@ impl Line {
 
     // The first that waits.
     fn head<T: Copy>(self, cells: &[T]) -> Option<T>
-        ensures value { result ≡ first_of cells.now self }
+        ensures value { result ≡ first_waiting cells.now self }
         ensures means { Fits cells.now self → result ≡ head_of (waits cells.now self) }
     {
         if !self.some(cells.len()) {
