@@ -92,6 +92,8 @@ def respelled(text, renamed, lemmas):
 
 
 def main():
+    if os.path.exists("docs/PORT.md"):
+        raise SystemExit("respell: this repository has its new spelling already: see docs/PORT.md")
     renamed = table(".")
     if sys.argv[1:] == ["--list"]:
         for old in sorted(renamed):

@@ -1,5 +1,5 @@
 -- Laws of gates. Assumes nothing.
-use Rattle.std.specs.Prelude.{◌≡◌, ℕ, ◌<◌, Bool, true, false, cond, List, [], ◌∷◌, ◌++◌, map, length, get_or, replicate, Some, ◌==◌, slice_index_or}
+use Rattle.std.specs.Prelude.{◌≡◌, ℕ, ◌<◌, Bool, true, false, cond, List, [], ◌∷◌, ◌++◌, map, length, replicate, Some, ◌==◌, slice_index_or}
 use Rattle.lines.specs.declared.packet.Packet.{Packet}
 use Rattle.lines.specs.Lines.{head_of}
 use Rattle.levels.specs.Levels.{LevelModel, full_level}
@@ -55,7 +55,7 @@ passing tick (packet ∷ packets) history = passing tick packets (record { at = 
 -- what passed of a flow up to a tick is regular, and its level is the one after it
 pub record RegularFlow (levels : List LevelModel) (flow burst rate tick : ℕ) (history : List Pass) : Type 0 where
   pub within : flow < length levels
-  pub level : get_or levels flow no_level ≡ level_after burst rate history
+  pub level : slice_index_or levels flow no_level ≡ level_after burst rate history
   pub order : InOrder history
   pub last : NotBefore history tick
   pub regular : Regular burst rate history

@@ -1,5 +1,5 @@
 -- The memory of a switch, from the sums that are kept. Assumes nothing.
-use Rattle.std.specs.Prelude.{ℕ, zero, suc, ◌+◌, ◌-◌, ◌*◌, ◌/◌, cond, List, get_or, ◌==◌, slice_index, slice_index_or}
+use Rattle.std.specs.Prelude.{ℕ, zero, suc, ◌+◌, ◌-◌, ◌*◌, ◌/◌, cond, List, ◌==◌, slice_index, slice_index_or}
 use Rattle.std.specs.Option.{unwrap_or}
 use Rattle.flows.specs.Net.{NetModel, port_at}
 use Rattle.promises.specs.Promises.{den}
@@ -25,7 +25,7 @@ regulator_needs loads pairs q (suc n) = regulator_needs loads pairs q n + class_
 
 -- of a port: its queues, and the regulators before it
 abbrev pub whole_need : List LoadModel → List (List LoadModel) → ℕ → ℕ
-whole_need loads pairs q = total (get_or loads q no_load).bursts + regulator_needs loads pairs q 64
+whole_need loads pairs q = total (slice_index_or loads q no_load).bursts + regulator_needs loads pairs q 64
 
 -- of those of the first n ports that stand on switch s
 unfoldable pub switch_needs : NetModel → List LoadModel → List (List LoadModel) → ℕ → ℕ → ℕ

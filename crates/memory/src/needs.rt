@@ -1,5 +1,5 @@
 // Needs of memory, from the sums that are kept. They are counted in 128 bits, so that none can pass its type.
-ghost use Rattle.std.specs.Prelude.{◌≡◌, ◌*◌, ◌^◌, ◌<◌, ◌≤◌, if◌then◌else◌, nat_eq};
+ghost use Rattle.std.specs.Prelude.{◌≡◌, ◌*◌, ◌^◌, ◌<◌, ◌≤◌, if◌then◌else◌, ◌==◌};
 ghost use Rattle.flows.specs.Net.{port_at};
 ghost use Rattle.flows.specs.Models.{net_of};
 ghost use Rattle.promises.specs.Models.{load_model, loads_model, pairs_model};
@@ -74,7 +74,7 @@ fn port_need(loads: &Loads, pairs: &Pairs, q: u8) -> u128
 
 // A port, if it stands on this switch.
 fn need_on(net: &Net, loads: &Loads, pairs: &Pairs, switch: u8, q: u8) -> u128
-    ensures value { result ≡ (if nat_eq (port_at (net_of net.now) q).switch switch then whole_need (loads_model loads.now) (pairs_model pairs.now) q else 0) }
+    ensures value { result ≡ (if (port_at (net_of net.now) q).switch == switch then whole_need (loads_model loads.now) (pairs_model pairs.now) q else 0) }
     ensures small { result ≤ 513 * 2 ^ 97 }
 {
     if net.port(q).switch == switch {

@@ -1,5 +1,5 @@
 // The line of an admitted flow.
-ghost use Rattle.std.specs.Prelude.{◌≡◌, cond, [], ◌∷◌, ◌++◌, length, string_bytes, codes, OnOk};
+ghost use Rattle.std.specs.Prelude.{◌≡◌, if◌then◌else◌, [], ◌∷◌, ◌++◌, length, string_bytes, codes, OnOk};
 ghost use Rattle.admission.specs.Plans.{plan_of};
 ghost use Rattle.admission.specs.Dues.{dues_numbered, dues_model};
 ghost use Rattle.script.specs.Lines.{due_text, dues_text, port_text, ports_text};
@@ -40,7 +40,7 @@ fn add_due(text: &mut String, number: u64, due: u64) -> Result<(), AllocError>
 
 // Adds what is due up to a port; a colon stands before the first, and a comma before each other.
 fn add_port(text: &mut String, is_first: bool, port: u8, due: u64) -> Result<(), AllocError>
-    ensures { OnOk result (string_bytes text.new ≡ string_bytes text.old ++ port_text (cond is_first (codes ":") (codes ",")) port due) }
+    ensures { OnOk result (string_bytes text.new ≡ string_bytes text.old ++ port_text (if is_first then codes ":" else codes ",") port due) }
 {
     let separator = if is_first { ":" } else { "," };
     match write!(text, "{separator} port {port} {due}") {

@@ -1,5 +1,5 @@
 // What a port promises, from the sums that are kept for it.
-ghost use Rattle.std.specs.Prelude.{◌≡◌, ◌+◌, ◌-◌, ◌*◌, ◌/◌, ◌<◌, ◌≤◌, ◌&&◌, leb, length, IfSome, if◌then◌else◌, Some, None, nat_le};
+ghost use Rattle.std.specs.Prelude.{◌≡◌, ◌+◌, ◌-◌, ◌*◌, ◌/◌, ◌<◌, ◌≤◌, ◌&&◌, length, IfSome, if◌then◌else◌, Some, None, nat_le};
 ghost use Rattle.std.specs.Option.{option_map};
 ghost use Rattle.flows.specs.Models.{flow_of};
 ghost use Rattle.promises.specs.Loads.{no_load, load_with, load_bursts, load_before, load_long, load_promise, load_fits, total};
@@ -56,7 +56,7 @@ impl Load {
     // What the port promises a class of 0 to 7; None where all of the port is promised to classes below it, and for
     // what is no class.
     pub fn promise(&self, class: u8) -> Option<u64>
-        ensures value { result ≡ (if leb class 7 then load_promise (load_model self.now) class else None) }
+        ensures value { result ≡ (if nat_le class 7 then load_promise (load_model self.now) class else None) }
         ensures small { IfSome result (λ n. n ≤ 34359738615000000) }
         ensures laws { PromiseLaws }
     {

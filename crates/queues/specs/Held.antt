@@ -1,5 +1,5 @@
 -- How the lent memory holds the queues. Assumes nothing.
-use Rattle.std.specs.Prelude.{◌≡◌, ℕ, zero, suc, ◌+◌, ◌<◌, ◌≤◌, min, cond, List, [], ◌∷◌, map, length, get_or, ◌==◌, nat_lt, slice_index, slice_index_or}
+use Rattle.std.specs.Prelude.{◌≡◌, ℕ, zero, suc, ◌+◌, ◌<◌, ◌≤◌, min, cond, List, [], ◌∷◌, map, length, ◌==◌, nat_lt, slice_index, slice_index_or}
 use Rattle.std.specs.List.{AllByRecursion as Each}
 use Rattle.lines.specs.declared.packet.Packet.{Packet}
 use Rattle.queues.specs.declared.cell.Cell.{Cell}
@@ -10,10 +10,10 @@ abbrev pub no_cell : Cell
 no_cell = record { packet = record { flow = 0; length = 0; edge = 0 }; next = 0 }
 
 abbrev pub packet_at : List Cell → ℕ → Packet
-packet_at cells i = (get_or cells i no_cell).packet
+packet_at cells i = (slice_index_or cells i no_cell).packet
 
 abbrev pub next_at : List Cell → ℕ → ℕ
-next_at cells i = (get_or cells i no_cell).next
+next_at cells i = (slice_index_or cells i no_cell).next
 
 -- the first k places from i on, each the next of the one before
 unfoldable pub places : List Cell → ℕ → ℕ → List ℕ

@@ -1,5 +1,5 @@
 -- What queues owe their users. Assumes nothing.
-use Rattle.std.specs.Prelude.{◌≡◌, ℕ, ◌+◌, ◌<◌, List, [], ◌∷◌, length, get_or, slice_index_or, slice_set}
+use Rattle.std.specs.Prelude.{◌≡◌, ℕ, ◌+◌, ◌<◌, List, [], ◌∷◌, length, slice_index_or, slice_set}
 use Rattle.lines.specs.declared.packet.Packet.{Packet}
 use Rattle.queues.specs.declared.cell.Cell.{Cell}
 use Rattle.queues.specs.declared.queues_of.Queues.{Queues}
@@ -12,7 +12,7 @@ pub record IsFirst (lines : List (List Packet)) (c : ℕ) (packet : Packet) : Ty
   pub within : c < length lines
   pub below : (d : ℕ) → d < c → slice_index_or lines d [] ≡ []
   pub others : List Packet
-  pub line : get_or lines c [] ≡ packet ∷ others
+  pub line : slice_index_or lines c [] ≡ packet ∷ others
   pub left : left_by lines ≡ slice_set lines c others
 
 pub record QueueLaws : Type 0 where

@@ -1,5 +1,5 @@
 // Putting into the queues of a port.
-ghost use Rattle.std.specs.Prelude.{◌≡◌, true, false, ◌&&◌, List, set, nat_le, nat_lt};
+ghost use Rattle.std.specs.Prelude.{◌≡◌, true, false, ◌&&◌, List, nat_le, nat_lt, slice_set};
 ghost use Rattle.queues.specs.Lines.{put_in, packets_in};
 ghost use Rattle.queues.specs.Held.{Holds, packet_at, size};
 
@@ -59,7 +59,7 @@ impl Queues {
 
 // The cell at a place gets a next one. Past the last cell nothing changes.
 fn link(cells: &mut [Cell], place: u32, next: u32)
-    ensures { cells.new ≡ set cells.old place (record { packet = packet_at cells.old place; next = next }) }
+    ensures { cells.new ≡ slice_set cells.old place (record { packet = packet_at cells.old place; next = next }) }
 {
     let place = place as usize;
     if place < cells.len() {

@@ -1,5 +1,5 @@
 -- Numbers in bytes, high byte first. Assumes nothing.
-use Rattle.std.specs.Prelude.{ℕ, zero, suc, ◌+◌, ◌*◌, ◌/◌, ◌%◌, ◌^◌, ◌<◌, Bool, cond, ◌&&◌, List, [], ◌∷◌, length, take, nat_eq, nat_le}
+use Rattle.std.specs.Prelude.{ℕ, zero, suc, ◌+◌, ◌*◌, ◌/◌, ◌%◌, ◌^◌, ◌<◌, Bool, cond, ◌&&◌, List, [], ◌∷◌, length, take, ◌==◌, nat_le}
 use Rattle.record_bytes.specs.Reading.{Cursor, Outcome, read, fault, ahead, and_then, end_of}
 
 -- what fits a byte
@@ -30,4 +30,4 @@ ranged k low high = tested k (λ n. nat_le low n && nat_le n high) 2
 
 -- The byte that says of which kind the record is. Any other is fault 1.
 unfoldable pub kind_byte : ℕ → Cursor → Outcome ℕ
-kind_byte k = tested 1 (λ n. nat_eq n k) 1
+kind_byte k = tested 1 (λ n. n == k) 1
