@@ -1,8 +1,8 @@
 -- A flow that is found in a plan by its number, and what it is due. Assumes nothing.
-use Rattle.std.proofs.Common.{◌≡◌, ℕ, Bool, true, false, cond, eqb, List, [], ◌∷◌, map, Some, None, vec_items, Option, sym, refl, ap, ◌∙◌, subst, arith}
+use Rattle.std.proofs.Common.{◌≡◌, ℕ, Bool, true, false, cond, eqb, ◌==◌, List, [], ◌∷◌, map, Some, None, vec_items, box_value, Option, sym, refl, ap, ◌∙◌, subst, arith}
 use Rattle.std.specs.List.{AllByRecursion as Each}
-use Rattle.std.specs.Option.{option_map}
-use Rattle.std.proofs.lemmas.Bool.{eq-eqb, ne_eqb}
+use Rattle.std.specs.List.{find}
+use Rattle.std.specs.Option.{option_map, is_none}
 use Rattle.flows.specs.declared.flow.Flow.{Flow}
 use Rattle.flows.specs.Flow.{FlowModel}
 use Rattle.flows.specs.Models.{net_of, flow_of}
@@ -10,30 +10,30 @@ use Rattle.promises.specs.Loads.{loads_dues}
 use Rattle.promises.specs.Models.{loads_model}
 use Rattle.promises.specs.Promises.{dues}
 use Rattle.admission.specs.declared.plan.Plan.{Plan}
+use Rattle.admission.specs.declared.refusal.Numbered.{Numbered}
 use Rattle.admission.specs.declared.refusal.Refusal.{Refusal}
 use Rattle.admission.specs.Models.{numbered_model}
 use Rattle.admission.specs.Tests.{NumberedModel}
 use Rattle.admission.specs.Rules.{flows_of, Routed, refusal_of}
-use Rattle.admission.specs.Sound.{is_none}
 use Rattle.admission.specs.Plans.{plan_of}
 use Rattle.admission.specs.Dues.{flow_numbered, dues_in, dues_numbered}
 use Rattle.admission.proofs.KeepLaws.{kept_loads}
 use Rattle.admission.proofs.PlanLaws.{ports-few, all_routed}
 use Rattle.admission.proofs.RuleLaws.{all_both, Among, each_among, room_everywhere, dues_same, admission_laws}
 
--- a search that looks at the first of the flows
-module _ (g : NumberedModel) (gs : List NumberedModel) (n : ℕ) (whole : Option FlowModel) where
-  pub number-found : g.number ≡ n → flow_numbered (g ∷ gs) n ≡ whole → Some g.flow ≡ whole
-  unfolding flow_numbered
-  number-found here all =
-      let step : flow_numbered (g ∷ gs) n ≡ Some g.flow = rw (eq-eqb g.number n here, flow_numbered) refl in
-      sym step ∙ all
-
-  pub number_on : (g.number ≡ n → ⊥) → flow_numbered (g ∷ gs) n ≡ whole → flow_numbered gs n ≡ whole
-  unfolding flow_numbered
-  number_on other all =
-      let step : flow_numbered (g ∷ gs) n ≡ flow_numbered gs n = rw (ne_eqb g.number n other, flow_numbered) refl in
-      sym step ∙ all
+-- what a search through flows finds
+pub number_find : (n : ℕ) (ns : List Numbered) →
+    option_map (λ (m : Numbered). flow_of m.flow) (find (λ (m : Numbered). m.number == n) ns) ≡ flow_numbered (map numbered_model ns) n
+unfolding flow_numbered
+number_find n [] = refl
+number_find n (m ∷ ns) = by (m.number == n) (number_find n ns)
+  where
+    by : (b : Bool) →
+        option_map (λ (k : Numbered). flow_of k.flow) (find (λ (k : Numbered). k.number == n) ns) ≡ flow_numbered (map numbered_model ns) n →
+        option_map (λ (k : Numbered). flow_of k.flow) (cond b (Some m) (find (λ (k : Numbered). k.number == n) ns)) ≡
+        cond b (Some (flow_of m.flow)) (flow_numbered (map numbered_model ns) n)
+    by true more = refl
+    by false more = more
 
 -- what holds of all flows holds of the one that is found
 found_too : (P : FlowModel → Type 0) (gs : List NumberedModel) (n : ℕ) (f : FlowModel) → Each P (flows_of gs) →
@@ -59,7 +59,7 @@ module _ (plan : Plan) where
   fs = flows_of gs
 
   abbrev Same : FlowModel → Type 0
-  Same f = loads_dues (net_of plan.net) (loads_model plan.loads) f.class 0 f.road ≡ Some (dues (net_of plan.net) fs f.class 0 f.road)
+  Same f = loads_dues (net_of plan.net) (loads_model (box_value plan.demand).loads) f.class 0 f.road ≡ Some (dues (net_of plan.net) fs f.class 0 f.road)
 
   plan-dues : Each Same fs
   plan-dues =
@@ -67,7 +67,7 @@ module _ (plan : Plan) where
       let sound = all_routed net (vec_items plan.flows) plan.on_roads in
       let fits = (admission_laws.exact net gs).0 (none_told (refusal_of net gs) plan.fits) in
       all_both (Routed net) (Among fs) Same
-      (dues_same net fs sound (loads_model plan.loads) (ports-few plan.net) (kept_loads (loads_model plan.loads) fs plan.loads_kept)
+      (dues_same net fs sound (loads_model (box_value plan.demand).loads) (ports-few plan.net) (kept_loads (loads_model (box_value plan.demand).loads) fs plan.loads_kept)
       (room_everywhere net fs sound fits.promised))
       fs sound (each_among fs)
 
@@ -75,13 +75,13 @@ module _ (plan : Plan) where
     same : Same (flow_of f)
     same = found_too Same gs n (flow_of f) plan-dues (sym found)
 
-    pub dues_told : None ≡ loads_dues (net_of plan.net) (loads_model plan.loads) f.class 0 (flow_of f).road → ⊥
+    pub dues_told : None ≡ loads_dues (net_of plan.net) (loads_model (box_value plan.demand).loads) f.class 0 (flow_of f).road → ⊥
     dues_told none = no_some _ (none ∙ same)
       where
         no_some : (ts : List ℕ) → ◌≡◌ {A = Option (List ℕ)} None (Some ts) → ⊥
         no_some ts e = let z : ◌≡◌ {A = ℕ} 0 1 = cc in absurd (omega arith)
 
-    pub dues-found : (ts : List ℕ) → Some ts ≡ loads_dues (net_of plan.net) (loads_model plan.loads) f.class 0 (flow_of f).road →
+    pub dues-found : (ts : List ℕ) → Some ts ≡ loads_dues (net_of plan.net) (loads_model (box_value plan.demand).loads) f.class 0 (flow_of f).road →
         Some (record { road = (flow_of f).road; ticks = ts }) ≡ dues_numbered (plan_of plan) n
     dues-found ts is =
         ap (option_map (λ us. record { road = (flow_of f).road; ticks = us })) (is ∙ same) ∙ ap (option_map (dues_in (plan_of plan))) found

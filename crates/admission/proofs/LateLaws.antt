@@ -1,18 +1,27 @@
 -- The first flow that is late. Assumes nothing.
-use Rattle.std.proofs.Common.{◌≡◌, ℕ, true, false, List, ◌∷◌, Some, Option, sym, refl, ◌∙◌}
+use Rattle.std.proofs.Common.{◌≡◌, ℕ, Bool, true, false, cond, List, [], ◌∷◌, map, Some, refl}
+use Rattle.std.specs.List.{find}
+use Rattle.std.specs.Option.{option_map}
 use Rattle.flows.specs.Net.{NetModel}
+use Rattle.flows.specs.Models.{flow_of}
 use Rattle.promises.specs.Loads.{LoadModel}
-use Rattle.admission.specs.Tests.{NumberedModel, is_late, first_late}
+use Rattle.admission.specs.declared.refusal.Numbered.{Numbered}
+use Rattle.admission.specs.declared.refusal.Refusal.{Refusal}
+use Rattle.admission.specs.Models.{numbered_model}
+use Rattle.admission.specs.Tests.{is_late, first_late}
 
-module _ (net : NetModel) (loads : List LoadModel) (g : NumberedModel) (gs : List NumberedModel) (whole : Option ℕ) where
-  pub late-found : true ≡ is_late net loads g.flow → first_late net loads (g ∷ gs) ≡ whole → Some g.number ≡ whole
-  unfolding first_late
-  late-found late all =
-      let step : first_late net loads (g ∷ gs) ≡ Some g.number = rw (← late, first_late) refl in
-      sym step ∙ all
-
-  pub late_on : false ≡ is_late net loads g.flow → first_late net loads (g ∷ gs) ≡ whole → first_late net loads gs ≡ whole
-  unfolding first_late
-  late_on early all =
-      let step : first_late net loads (g ∷ gs) ≡ first_late net loads gs = rw (← early, first_late) refl in
-      sym step ∙ all
+-- what a search through flows finds, by what is made of its number
+pub late_find : (net : NetModel) (loads : List LoadModel) (v : ℕ → Refusal) (ns : List Numbered) →
+    option_map (λ (n : Numbered). v n.number) (find (λ (n : Numbered). is_late net loads (flow_of n.flow)) ns) ≡
+    option_map v (first_late net loads (map numbered_model ns))
+unfolding first_late
+late_find net loads v [] = refl
+late_find net loads v (n ∷ ns) = by (is_late net loads (flow_of n.flow)) (late_find net loads v ns)
+  where
+    by : (b : Bool) →
+        option_map (λ (m : Numbered). v m.number) (find (λ (m : Numbered). is_late net loads (flow_of m.flow)) ns) ≡
+        option_map v (first_late net loads (map numbered_model ns)) →
+        option_map (λ (m : Numbered). v m.number) (cond b (Some n) (find (λ (m : Numbered). is_late net loads (flow_of m.flow)) ns)) ≡
+        option_map v (cond b (Some n.number) (first_late net loads (map numbered_model ns)))
+    by true more = refl
+    by false more = more

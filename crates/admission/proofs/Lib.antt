@@ -5,3 +5,4 @@ pub mod RuleLaws
 pub mod KeepLaws
 pub mod PlanLaws
 pub mod DueLaws
+pub mod FoundLaws

@@ -1,33 +1,14 @@
 -- The first that passes a test. Assumes nothing.
-use Rattle.std.proofs.Common.{◌≡◌, ℕ, zero, suc, ◌+◌, ◌-◌, ◌<◌, ◌≤◌, Bool, true, false, cond, Some, None, Option, sym, refl, ap, ◌∙◌, inl, inr, arith}
+use Rattle.std.proofs.Common.{◌≡◌, ℕ, zero, suc, ◌+◌, ◌<◌, ◌≤◌, Bool, true, false, cond, Some, None, sym, refl, ap, ◌∙◌, inl, inr, arith}
+use Rattle.std.specs.List.{find, range_with_len}
 use Rattle.std.proofs.lemmas.Bool.{cases_eq}
 use Rattle.admission.specs.Lowest.{lowest, LowestLaw}
 
--- a loop that looks for it among n, and has come to k: it goes on, it finds it, and it ends
-module _ (test : ℕ → Bool) (n k : ℕ) (whole : Option ℕ) where
-  abbrev pub Looks : Type 0
-  Looks = lowest test (n - k) k ≡ whole
-
-  pub looks_on : k < n → test k ≡ false → Looks → lowest test (n - (k + 1)) (k + 1) ≡ whole
-  unfolding lowest
-  looks_on more fails looks =
-      let e : n - k ≡ suc (n - (k + 1)) = omega arith in
-      let step : lowest test (suc (n - (k + 1))) k ≡ lowest test (n - (k + 1)) (k + 1) = rw (fails, lowest) refl in
-      sym step ∙ (rw e at looks)
-
-  pub looks_found : k < n → test k ≡ true → Looks → Some k ≡ whole
-  unfolding lowest
-  looks_found more passes looks =
-      let e : n - k ≡ suc (n - (k + 1)) = omega arith in
-      let step : lowest test (suc (n - (k + 1))) k ≡ Some k = rw (passes, lowest) refl in
-      sym step ∙ (rw e at looks)
-
-  pub looks_end : n ≤ k → Looks → None ≡ whole
-  unfolding lowest
-  looks_end all looks = let e : n - k ≡ 0 = omega arith in rw e at looks
-
-pub looks_begin : (test : ℕ → Bool) (n : ℕ) → lowest test (n - 0) 0 ≡ lowest test n 0
-looks_begin test n = let e : n - 0 ≡ n = omega arith in rw e refl
+-- what a search through the range finds
+pub lowest_find : (test : ℕ → Bool) (n k : ℕ) → lowest test n k ≡ find test (range_with_len k n)
+unfolding lowest
+lowest_find test zero k = refl
+lowest_find test (suc n) k = ap (λ rest. cond (test k) (Some k) rest) (lowest_find test n (k + 1))
 
 -- what was found from k on, passes and is the first
 found_from : (test : ℕ → Bool) (n k j : ℕ) → lowest test n k ≡ Some j →

@@ -1,11 +1,12 @@
 -- What a plan keeps, with no flow and with one more. Assumes nothing.
-use Rattle.std.proofs.Common.{◌≡◌, ℕ, zero, suc, ◌+◌, ◌-◌, ◌<◌, ◌≤◌, Bool, true, false, cond, eqb, List, [], ◌∷◌, ◌++◌, map, length, get_or, take, Some, None, vec_items, box_value, Option, sym, refl, ap, ◌∙◌, subst, zero-add, arith}
+use Rattle.std.proofs.Common.{◌≡◌, ℕ, zero, suc, ◌+◌, ◌-◌, ◌<◌, ◌≤◌, Bool, true, false, cond, eqb, List, [], ◌∷◌, ◌++◌, map, length, get_or, take, Some, None, vec_items, box_value, Option, inl, inr, sym, refl, ap, ◌∙◌, subst, zero-add, arith}
 use mathlib.Core.List.{map-append}
 use lib.ListN.{length-map}
 use Rattle.std.specs.List.{AllByRecursion as Each}
 use Rattle.std.proofs.lemmas.List.{length-take-le, length_push}
+use Rattle.std.proofs.lemmas.Option.{none-some}
 use Rattle.std.proofs.ByRecursion.{All-push, All-weaker}
-use Rattle.std.proofs.lemmas.Bool.{lt-ltb, cond-true}
+use Rattle.std.proofs.lemmas.Bool.{cond-true}
 use lib.Seq.{take-append_seam}
 use Rattle.flows.specs.declared.net.Net.{Net}
 use Rattle.flows.specs.declared.flow.Flow.{Flow}
@@ -16,9 +17,10 @@ use Rattle.flows.specs.Models.{net_of, flow_of}
 use Rattle.flows.proofs.LeadLaws.{leads_exactly}
 use Rattle.promises.specs.declared.loads.Loads.{Loads}
 use Rattle.promises.specs.declared.pairs.Pairs.{Pairs}
+use Rattle.promises.specs.declared.demand.Demand.{Demand}
 use Rattle.promises.specs.Models.{load_model, loads_model, pairs_model}
 use Rattle.promises.specs.Promises.{before, bursts, windowed}
-use Rattle.promises.specs.Loads.{LoadModel, loads_with, pairs_with}
+use Rattle.promises.specs.Demands.{Grown}
 use Rattle.promises.specs.Laws.{Kept, PairsOf, Squared, Bounded}
 use Rattle.promises.proofs.TableLaws.{table_kept}
 use Rattle.promises.proofs.PairLaws.{pairs-kept}
@@ -27,11 +29,11 @@ use Rattle.memory.specs.Plans.{class_plan, regulator_plan, port_plan, switch_pla
 use Rattle.admission.specs.declared.plan.Plan.{Plan}
 use Rattle.admission.specs.declared.refusal.Numbered.{Numbered}
 use Rattle.admission.specs.declared.refusal.Refusal.{Refusal}
-use Rattle.admission.specs.declared.refusal.Refusal.TheVariants.{Crowded}
 use Rattle.admission.specs.Models.{numbered_model}
 use Rattle.admission.specs.Tests.{NumberedModel, judged}
 use Rattle.admission.specs.Rules.{flows_of, Routed, Fits, refusal_of}
-use Rattle.admission.specs.Sound.{all_roads, is_none, passes_all}
+use Rattle.admission.specs.Sound.{all_roads, passes_all}
+use Rattle.std.specs.Option.{is_none}
 use Rattle.admission.specs.Plans.{PlanModel, tested}
 use Rattle.admission.proofs.RuleLaws.{admission_laws}
 use Rattle.admission.proofs.KeepLaws as keep
@@ -115,12 +117,8 @@ flows-more gs g = map-append _ gs (g ∷ [])
 
 rows : (tables : List Loads) (p : ℕ) → p < length tables → length (get_or (map loads_model tables) p []) ≡ 64
 rows [] p less = absurd (omega arith)
-rows (t ∷ tables) zero less = length-map t.ports load_model ∙ t.all_ports
+rows (t ∷ tables) zero less = length-map t.ports.each load_model ∙ t.ports.all_ports
 rows (t ∷ tables) (suc p) less = rows tables p (omega arith)
-
--- more than 256 flows
-pub crowded_with : (net : NetModel) (gs : List NumberedModel) (g : NumberedModel) → 256 ≤ length gs → refusal_of net (gs ++ g ∷ []) ≡ Some Crowded
-crowded_with net gs g many = let size = length_push gs g in rw (lt-ltb 256 (length (gs ++ g ∷ [])) (omega arith)) refl
 
 -- a flow that was pushed
 pub pushed : (xs ys : List Numbered) (n : Numbered) → ys ≡ xs ++ n ∷ [] → map numbered_model ys ≡ map numbered_model xs ++ numbered_model n ∷ []
@@ -132,10 +130,10 @@ module _ (plan : Plan) (n : Numbered) (leading : leads (net_of plan.net) (flow_o
   net = plan.net
 
   abbrev loads : Loads
-  loads = plan.loads
+  loads = (box_value plan.demand).loads
 
   abbrev pairs : Pairs
-  pairs = box_value plan.pairs
+  pairs = (box_value plan.demand).pairs
 
   abbrev ns : List Numbered
   ns = vec_items plan.flows
@@ -161,70 +159,63 @@ module _ (plan : Plan) (n : Numbered) (leading : leads (net_of plan.net) (flow_o
   few-flows few = let size = length-map gs (λ (g : NumberedModel). g.flow) in omega arith
 
   -- with fewer than 256 flows no sum passes 32 bits
-  pub sums_told : length gs ≤ 255 → None ≡ loads_with f f.road (loads_model loads) → ⊥
-  sums_told few none =
+  pub demand_told : length gs ≤ 255 → Grown (box_value plan.demand) f None → ⊥
+  demand_told few (inl none) =
       let fit = sums_fit_lem (loads_model loads) fs f (all_bounded ns) (flow-bounded n.flow) route.once low_ports (few-flows few)
       (keep.kept_loads (loads_model loads) fs plan.loads_kept) in
-      no_some fit.0 (none ∙ fit.1)
-    where
-      no_some : (us : List LoadModel) → ◌≡◌ {A = Option (List LoadModel)} None (Some us) → ⊥
-      no_some us e = let z : ◌≡◌ {A = ℕ} 0 1 = cc in absurd (omega arith)
-
-  pub pairs_told : length gs ≤ 255 → None ≡ pairs_with f f.road (pairs_model pairs) → ⊥
-  pairs_told few none =
+      none-some _ (sym none ∙ fit.1)
+  demand_told few (inr none) =
       let fit = pairs_fit_lem (pairs_model pairs) fs f (all_bounded ns) (flow-bounded n.flow) route.once low_ports (few-flows few)
       (keep.kept-pairs (pairs_model pairs) fs plan.pairs_kept) in
-      no_some fit.0 (none ∙ fit.1)
-    where
-      no_some : (us : List (List LoadModel)) → ◌≡◌ {A = Option (List (List LoadModel))} None (Some us) → ⊥
-      no_some us e = let z : ◌≡◌ {A = ℕ} 0 1 = cc in absurd (omega arith)
+      none-some _ (sym none ∙ fit.1)
 
   sizes : length (loads_model loads) ≡ 64
-  sizes = length-map loads.ports load_model ∙ loads.all_ports
+  sizes = length-map loads.ports.each load_model ∙ loads.ports.all_ports
 
   square : Squared (pairs_model pairs)
   square =
       record {
-        rows = length-map pairs.from loads_model ∙ pairs.all_ports;
-        columns = λ p less. rows pairs.from p (omega (arith, pairs.all_ports));
+        rows = length-map pairs.from.each loads_model ∙ pairs.from.all_ports;
+        columns = λ p less. rows pairs.from.each p (omega (arith, pairs.from.all_ports));
       }
 
   more : flows_of (gs ++ numbered_model n ∷ []) ≡ fs ++ f ∷ []
   more = flows-more gs (numbered_model n)
 
-  pub sums_more : (us : Loads) → Some (loads_model us) ≡ loads_with f f.road (loads_model loads) → Kept (loads_model us) (flows_of (gs ++ numbered_model n ∷ []))
-  sums_more us is =
-      subst (Kept (loads_model us)) (sym more)
-      (table_kept (loads_model loads) (loads_model us) fs f sizes route.once low_ports (keep.kept_loads (loads_model loads) fs plan.loads_kept) (sym is))
+  -- what is asked with it
+  module _ (d : Demand) (grown : Grown (box_value plan.demand) f (Some d)) where
+    pub sums_more : Kept (loads_model d.loads) (flows_of (gs ++ numbered_model n ∷ []))
+    sums_more =
+        subst (Kept (loads_model d.loads)) (sym more)
+        (table_kept (loads_model loads) (loads_model d.loads) fs f sizes route.once low_ports (keep.kept_loads (loads_model loads) fs plan.loads_kept) grown.0)
 
-  pub pairs-more : (us : Pairs) → Some (pairs_model us) ≡ pairs_with f f.road (pairs_model pairs) → PairsOf (pairs_model us) (flows_of (gs ++ numbered_model n ∷ []))
-  pairs-more us is =
-      subst (PairsOf (pairs_model us)) (sym more)
-      (pairs-kept (pairs_model pairs) (pairs_model us) fs f square route.once low_ports (keep.kept-pairs (pairs_model pairs) fs plan.pairs_kept) (sym is)).1
+    pub pairs-more : PairsOf (pairs_model d.pairs) (flows_of (gs ++ numbered_model n ∷ []))
+    pairs-more =
+        subst (PairsOf (pairs_model d.pairs)) (sym more)
+        (pairs-kept (pairs_model pairs) (pairs_model d.pairs) fs f square route.once low_ports (keep.kept-pairs (pairs_model pairs) fs plan.pairs_kept) grown.1).1
+
+    -- the tests by the sums are those of the rules
+    judged-more :
+        judged (net_of net) net.count net.switches (loads_model d.loads) (pairs_model d.pairs) (gs ++ numbered_model n ∷ []) ≡
+        refusal_of (net_of net) (gs ++ numbered_model n ∷ [])
+    judged-more =
+        let routed : Each (Routed (net_of net)) (flows_of (gs ++ numbered_model n ∷ [])) =
+        subst (Each (Routed (net_of net))) (sym more) (All-push (Routed (net_of net)) fs f (all_routed (net_of net) ns plan.on_roads) (flow_routed (net_of net) n.flow leading)) in
+        ap (λ k. judged (net_of net) k net.switches (loads_model d.loads) (pairs_model d.pairs) (gs ++ numbered_model n ∷ [])) (sym (ports_count net))
+        ∙ ap (λ k. judged (net_of net) (length (net_of net).ports) k (loads_model d.loads) (pairs_model d.pairs) (gs ++ numbered_model n ∷ [])) (sym (switches_count net))
+        ∙ admission_laws.judged (net_of net) (loads_model d.loads) (pairs_model d.pairs) (gs ++ numbered_model n ∷ []) (ports-few net) routed sums_more pairs-more
+
+    -- what was judged of the flows with it is what the rules say
+    pub judged-tested : (ys zs : List Numbered) → zs ≡ ys → ys ≡ ns ++ n ∷ [] → (r : Option Refusal) →
+        r ≡ judged (net_of net) net.count net.switches (loads_model d.loads) (pairs_model d.pairs) (map numbered_model zs) →
+        refusal_of (net_of net) (gs ++ numbered_model n ∷ []) ≡ r
+    judged-tested ys zs same is r told =
+        sym judged-more
+        ∙ ap (judged (net_of net) net.count net.switches (loads_model d.loads) (pairs_model d.pairs)) (sym (ap (map numbered_model) same ∙ pushed ns ys n is))
+        ∙ sym told
 
   pub roads_more : all_roads (net_of net) (flows_of (gs ++ numbered_model n ∷ [])) ≡ true
   roads_more = ap (all_roads (net_of net)) more ∙ keep.roads_more (net_of net) fs f plan.on_roads leading
-
-  -- the tests by the sums are those of the rules
-  pub judged-more : (us : Loads) (vs : Pairs) → Some (loads_model us) ≡ loads_with f f.road (loads_model loads) →
-      Some (pairs_model vs) ≡ pairs_with f f.road (pairs_model pairs) →
-      judged (net_of net) net.count net.switches (loads_model us) (pairs_model vs) (gs ++ numbered_model n ∷ []) ≡ refusal_of (net_of net) (gs ++ numbered_model n ∷ [])
-  judged-more us vs sum pair =
-      let routed : Each (Routed (net_of net)) (flows_of (gs ++ numbered_model n ∷ [])) =
-      subst (Each (Routed (net_of net))) (sym more) (All-push (Routed (net_of net)) fs f (all_routed (net_of net) ns plan.on_roads) (flow_routed (net_of net) n.flow leading)) in
-      ap (λ k. judged (net_of net) k net.switches (loads_model us) (pairs_model vs) (gs ++ numbered_model n ∷ [])) (sym (ports_count net))
-      ∙ ap (λ k. judged (net_of net) (length (net_of net).ports) k (loads_model us) (pairs_model vs) (gs ++ numbered_model n ∷ [])) (sym (switches_count net))
-      ∙ admission_laws.judged (net_of net) (loads_model us) (pairs_model vs) (gs ++ numbered_model n ∷ []) (ports-few net) routed (sums_more us sum) (pairs-more vs pair)
-
-  -- what was judged of the flows with it is what the rules say
-  pub judged-tested : (us : Loads) (vs : Pairs) → Some (loads_model us) ≡ loads_with f f.road (loads_model loads) →
-      Some (pairs_model vs) ≡ pairs_with f f.road (pairs_model pairs) → (ys zs : List Numbered) → zs ≡ ys → ys ≡ ns ++ n ∷ [] → (r : Option Refusal) →
-      r ≡ judged (net_of net) net.count net.switches (loads_model us) (pairs_model vs) (map numbered_model zs) →
-      refusal_of (net_of net) (gs ++ numbered_model n ∷ []) ≡ r
-  judged-tested us vs sum pair ys zs same is r told =
-      sym (judged-more us vs sum pair)
-      ∙ ap (judged (net_of net) net.count net.switches (loads_model us) (pairs_model vs)) (sym (ap (map numbered_model) same ∙ pushed ns ys n is))
-      ∙ sym told
 
 -- and popped again
 pub popped : (xs ys : List Numbered) (n : Numbered) (k : ℕ) → ys ≡ xs ++ n ∷ [] → k ≡ length ys → take (k - 1) ys ≡ xs

@@ -35,4 +35,4 @@ tested p g = cond (leads p.net g.flow.road) (refusal_of p.net (p.flows ++ g ∷ 
 abbrev pub Answered : PlanModel → NumberedModel → PlanModel → Result (Unit {0}) NotAdmitted → Type 0
 Answered before g after (Ok _) = (tested before g ≡ None) × (after ≡ with_flow before g)
 Answered before g after (Err (Refused r)) = (tested before g ≡ Some r) × (after ≡ before)
-Answered before g after (Err OutOfMemory) = after ≡ before
+Answered before g after (Err (OutOfMemory error)) = after ≡ before

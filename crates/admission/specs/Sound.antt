@@ -1,11 +1,11 @@
 -- What a plan keeps of its flows, as tests. Assumes nothing.
-use Rattle.std.specs.Prelude.{ℕ, zero, suc, Bool, true, false, ◌&&◌, List, [], ◌∷◌, Some, None, Option, slice_index_or}
+use Rattle.std.specs.Prelude.{ℕ, zero, suc, Bool, true, ◌&&◌, List, [], ◌∷◌, slice_index_or}
 use Rattle.std.specs.Str.{bytes_eq}
+use Rattle.std.specs.Option.{is_none}
 use Rattle.flows.specs.Net.{NetModel}
 use Rattle.flows.specs.Flow.{FlowModel}
 use Rattle.flows.specs.Roads.{leads}
 use Rattle.promises.specs.Loads.{LoadModel, no_load, load_of, pair_of, pair_at}
-use Rattle.admission.specs.declared.refusal.Refusal.{Refusal}
 use Rattle.admission.specs.Tests.{NumberedModel}
 use Rattle.admission.specs.Rules.{refusal_of}
 
@@ -30,10 +30,6 @@ keeps_pairs pairs fs = all_below (λ p. all_below (λ q. same_load (pair_at pair
 unfoldable pub all_roads : NetModel → List FlowModel → Bool
 all_roads net [] = true
 all_roads net (f ∷ fs) = leads net f.road && all_roads net fs
-
-abbrev pub is_none : Option Refusal → Bool
-is_none None = true
-is_none (Some r) = false
 
 -- the flows pass all tests of admission
 abbrev pub passes_all : NetModel → List NumberedModel → Bool

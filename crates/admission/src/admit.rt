@@ -10,8 +10,7 @@ use super::plan::Plan;
 use super::refusal::{NotAdmitted, Numbered, Refusal};
 use flows::flow::Flow;
 use flows::net::Net;
-use promises::loads::Loads;
-use promises::pairs::Pairs;
+use promises::demand::Demand;
 use std::alloc::{AllocError, Global};
 
 impl Plan {
@@ -19,18 +18,11 @@ impl Plan {
     pub fn new(heap: Global, net: Net) -> Result<Self, AllocError>
         ensures { IfOk result (λ p. plan_of p ≡ empty_plan (net_of net)) }
     {
-        Plan::empty(heap, net)
-    }
-
-    fn empty(heap: Global, net: Net) -> Result<Self, AllocError>
-        ensures { IfOk result (λ p. plan_of p ≡ empty_plan (net_of net)) }
-    {
-        let pairs = Box::new(heap, Pairs::none())?;
+        let demand = Box::new(heap, Demand::none())?;
         Ok(Plan {
             net,
             flows: Vec::new(heap),
-            loads: Loads::none(),
-            pairs,
+            demand,
         })
     }
 
@@ -38,42 +30,23 @@ impl Plan {
     pub fn admit(&mut self, new: Numbered) -> Result<(), NotAdmitted>
         ensures { Answered (plan_of self.old) (numbered_model new) (plan_of self.new) result }
     {
-        self.try_admit(new)
-    }
-
-    fn try_admit(&mut self, new: Numbered) -> Result<(), NotAdmitted>
-        ensures { Answered (plan_of self.old) (numbered_model new) (plan_of self.new) result }
-    {
         if !is_routed(&self.net, &new.flow) {
-            return Err(NotAdmitted::Refused {
-                refusal: Refusal::Road,
-            });
+            return Err(Refusal::Road.into());
         }
         if self.flows.len() >= 256 {
-            return Err(NotAdmitted::Refused {
-                refusal: Refusal::Crowded,
-            });
+            return Err(Refusal::Crowded.into());
         }
-        // With so few flows no sum passes 32 bits, and none of the two is missing.
-        let Some(loads) = self.loads.with(&new.flow) else {
-            return Err(NotAdmitted::Refused {
-                refusal: Refusal::Crowded,
-            });
+        // With so few flows no sum passes 32 bits, and none is missing.
+        // Taken apart here, since each step through a Result would copy all of it.
+        let Some(demand) = self.demand.as_ref().with(&new.flow) else {
+            return Err(Refusal::Crowded.into());
         };
-        let Some(pairs) = self.pairs.as_ref().with(&new.flow) else {
-            return Err(NotAdmitted::Refused {
-                refusal: Refusal::Crowded,
-            });
-        };
-        let Ok(()) = self.flows.push(new) else {
-            return Err(NotAdmitted::OutOfMemory);
-        };
-        if let Some(refusal) = judge(&self.net, &loads, &pairs, self.flows.as_slice()) {
+        self.flows.push(new)?;
+        if let Err(refusal) = judge(&self.net, &demand, self.flows.as_slice()) {
             self.flows.pop();
-            return Err(NotAdmitted::Refused { refusal });
+            return Err(refusal.into());
         }
-        self.loads = loads;
-        *self.pairs = pairs;
+        *self.demand = demand;
         Ok(())
     }
 }
@@ -82,6 +55,5 @@ impl Plan {
 fn is_routed(net: &Net, flow: &Flow) -> bool
     ensures { result ≡ leads (net_of net.now) (flow_of flow.now).road }
 {
-    let hops = flow.hops as usize;
-    net.has_road(&flow.road[0..hops])
+    net.has_road(flow.road())
 }

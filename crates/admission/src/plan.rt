@@ -7,19 +7,17 @@ ghost use Rattle.admission.specs.Sound.{keeps_loads, keeps_pairs, all_roads, pas
 
 use super::refusal::Numbered;
 use flows::net::Net;
-use promises::loads::Loads;
-use promises::pairs::Pairs;
+use promises::demand::Demand;
 
-// A net and the flows that are admitted to it, in the order of admission, with the sums that are kept for them. All that
-// is promised them holds.
+// A net and the flows that are admitted to it, in the order of admission, with what they ask of it. All that is
+// promised them holds.
 #[derive(Drop)]
 pub struct Plan {
     pub net: Net,
     pub flows: Vec<Numbered>,
-    pub loads: Loads,
-    pub pairs: Box<Pairs>,
-    ghost loads_kept: { keeps_loads (loads_model loads) (flows_of (map numbered_model flows.items)) ≡ true },
-    ghost pairs_kept: { keeps_pairs (pairs_model pairs.value) (flows_of (map numbered_model flows.items)) ≡ true },
+    pub demand: Box<Demand>,
+    ghost loads_kept: { keeps_loads (loads_model demand.value.loads) (flows_of (map numbered_model flows.items)) ≡ true },
+    ghost pairs_kept: { keeps_pairs (pairs_model demand.value.pairs) (flows_of (map numbered_model flows.items)) ≡ true },
     ghost on_roads: { all_roads (net_of net) (flows_of (map numbered_model flows.items)) ≡ true },
     ghost fits: { passes_all (net_of net) (map numbered_model flows.items) ≡ true },
 }

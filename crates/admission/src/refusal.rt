@@ -1,4 +1,8 @@
+ghost use Rattle.std.specs.Prelude.{◌≡◌, alloc_error};
+ghost use Rattle.admission.specs.declared.refusal.NotAdmitted.TheVariants.{Refused, OutOfMemory};
+
 use flows::flow::Flow;
+use std::alloc::{AllocError, AllocFailed};
 
 // A flow that is admitted or is to be, and its number.
 #[derive(Clone, Copy)]
@@ -8,7 +12,7 @@ pub struct Numbered {
 }
 
 // The first test that a flow fails, alone or with those admitted before it.
-#[derive(Clone, Copy)]
+#[derive(Clone, Copy, Debug, PartialEq, Eq)]
 pub enum Refusal {
     // 3: no road through this net
     Road,
@@ -23,8 +27,24 @@ pub enum Refusal {
 }
 
 // Why a flow is not admitted.
-#[derive(Clone, Copy)]
+#[derive(Clone, Copy, Debug, PartialEq, Eq)]
 pub enum NotAdmitted {
     Refused { refusal: Refusal },
-    OutOfMemory,
+    OutOfMemory { error: AllocError },
+}
+
+impl From<Refusal> for NotAdmitted {
+    ghost from_gives = { λ r e. e ≡ Refused r };
+
+    fn from(refusal: Refusal) -> NotAdmitted {
+        NotAdmitted::Refused { refusal }
+    }
+}
+
+impl<T: Drop> From<AllocFailed<T>> for NotAdmitted {
+    ghost from_gives = { λ _ e. e ≡ OutOfMemory alloc_error };
+
+    fn from(_failed: AllocFailed<T>) -> NotAdmitted {
+        NotAdmitted::OutOfMemory { error: AllocError }
+    }
 }

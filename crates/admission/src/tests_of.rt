@@ -1,32 +1,34 @@
 // The tests of admission, one by one.
-ghost use Rattle.std.specs.Prelude.{◌≡◌, map};
+ghost use Rattle.std.specs.Prelude.{◌≡◌, map, length, Some, None};
+ghost use Rattle.std.specs.Option.{option_map};
+ghost use Rattle.std.specs.Result.{result_err};
 ghost use Rattle.flows.specs.Models.{net_of, flow_of};
 ghost use Rattle.promises.specs.Models.{loads_model, pairs_model};
+ghost use Rattle.admission.specs.declared.refusal.Refusal.TheVariants.{Promised, Late, Memory};
 ghost use Rattle.admission.specs.Lowest.{lowest};
 ghost use Rattle.admission.specs.Models.{numbered_model};
-ghost use Rattle.admission.specs.Tests.{over_promised, is_late, first_late, is_short};
+ghost use Rattle.admission.specs.Tests.{over_promised, is_late, first_late, is_short, crowded};
 
-use super::refusal::Numbered;
+use super::refusal::{Numbered, Refusal};
 use flows::flow::Flow;
 use flows::net::Net;
 use memory::needs::switch_need;
-use promises::loads::Loads;
-use promises::pairs::Pairs;
+use promises::demand::Demand;
 
 const DEN: u64 = 1_000_000;
 
 // Whether a port is promised more than all of itself.
-fn is_promised(loads: &Loads, port: u8) -> bool
-    ensures { result ≡ over_promised (loads_model loads.now) port }
+fn is_promised(demand: &Demand, port: u8) -> bool
+    ensures { result ≡ over_promised (loads_model demand.now.loads) port }
 {
-    DEN < loads.at(port).rates_together()
+    DEN < demand.loads.at(port).rates_together()
 }
 
 // Whether a flow is due after its deadline.
-fn is_late(net: &Net, loads: &Loads, flow: &Flow) -> bool
-    ensures { result ≡ is_late (net_of net.now) (loads_model loads.now) (flow_of flow.now) }
+fn is_late(net: &Net, demand: &Demand, flow: &Flow) -> bool
+    ensures { result ≡ is_late (net_of net.now) (loads_model demand.now.loads) (flow_of flow.now) }
 {
-    let Some(dues) = loads.dues(net, flow) else {
+    let Some(dues) = demand.loads.dues(net, flow) else {
         return true;
     };
     let last = flow.hops as usize - 1;
@@ -34,45 +36,57 @@ fn is_late(net: &Net, loads: &Loads, flow: &Flow) -> bool
 }
 
 // Whether a switch has not enough memory.
-fn is_short(net: &Net, loads: &Loads, pairs: &Pairs, switch: u8) -> bool
-    ensures { result ≡ is_short (net_of net.now) (loads_model loads.now) (pairs_model pairs.now) net.now.count switch }
+fn is_short(net: &Net, demand: &Demand, switch: u8) -> bool
+    ensures { result ≡ is_short (net_of net.now) (loads_model demand.now.loads) (pairs_model demand.now.pairs) net.now.count switch }
 {
-    (net.memory_of(switch) as u128) < switch_need(net, loads, pairs, switch)
+    (net.memory_of(switch) as u128) < switch_need(net, demand, switch)
 }
 
-// The lowest port that is promised more than all of itself.
-pub(crate) fn first_promised(net: &Net, loads: &Loads) -> Option<u8>
-    ensures { result ≡ lowest (over_promised (loads_model loads.now)) net.now.count 0 }
+// Refused for what was found, if anything.
+fn refused_for(found: Option<Refusal>) -> Result<(), Refusal>
+    ensures { result_err result ≡ found }
 {
-    for port in 0..net.count {
-        if is_promised(loads, port) {
-            return Some(port);
-        }
-    }
-    None
+    found.map_or(Ok(()), Err)
 }
 
-// The first flow that is due after its deadline.
-pub(crate) fn first_late(net: &Net, loads: &Loads, flows: &[Numbered]) -> Option<u64>
-    ensures { result ≡ first_late (net_of net.now) (loads_model loads.now) (map numbered_model flows.now) }
+// Refused where there are more than 256 flows.
+pub(crate) fn flows_are_few(flows: &[Numbered]) -> Result<(), Refusal>
+    ensures { result_err result ≡ crowded (length flows.now) }
 {
-    for i in 0..flows.len() {
-        let numbered = flows[i];
-        if is_late(net, loads, &numbered.flow) {
-            return Some(numbered.number);
-        }
+    if flows.len() > 256 {
+        return Err(Refusal::Crowded);
     }
-    None
+    Ok(())
 }
 
-// The lowest switch that has not enough memory.
-pub(crate) fn first_short(net: &Net, loads: &Loads, pairs: &Pairs) -> Option<u8>
-    ensures { result ≡ lowest (is_short (net_of net.now) (loads_model loads.now) (pairs_model pairs.now) net.now.count) net.now.switches 0 }
+// Refused where a port is promised more than all of itself: the lowest such port.
+pub(crate) fn ports_suffice(net: &Net, demand: &Demand) -> Result<(), Refusal>
+    ensures { result_err result ≡ option_map Promised (lowest (over_promised (loads_model demand.now.loads)) net.now.count 0) }
 {
-    for switch in 0..net.switches {
-        if is_short(net, loads, pairs, switch) {
-            return Some(switch);
-        }
-    }
-    None
+    let promised = (0..net.count).find(|port| is_promised(demand, *port));
+    refused_for(promised.map(|port| Refusal::Promised { port }))
+}
+
+// Refused where a flow is due after its deadline: the first such flow.
+pub(crate) fn flows_are_in_time(
+    net: &Net,
+    demand: &Demand,
+    flows: &[Numbered],
+) -> Result<(), Refusal>
+    ensures { result_err result ≡ option_map Late (first_late (net_of net.now) (loads_model demand.now.loads) (map numbered_model flows.now)) }
+{
+    let late = flows
+        .iter()
+        .find(|numbered| is_late(net, demand, &numbered.flow));
+    refused_for(late.map(|numbered| Refusal::Late {
+        flow: numbered.number,
+    }))
+}
+
+// Refused where a switch has not enough memory: the lowest such switch.
+pub(crate) fn switches_suffice(net: &Net, demand: &Demand) -> Result<(), Refusal>
+    ensures { result_err result ≡ option_map Memory (lowest (is_short (net_of net.now) (loads_model demand.now.loads) (pairs_model demand.now.pairs) net.now.count) net.now.switches 0) }
+{
+    let short = (0..net.switches).find(|switch| is_short(net, demand, *switch));
+    refused_for(short.map(|switch| Refusal::Memory { switch }))
 }

@@ -3,9 +3,9 @@
 #![tactic(auto)]
 
 ghost use Rattle.std.specs.Prelude.{◌≡◌, ◌<◌, [], ◌∷◌, IfSome, IfOk};
-ghost use Rattle.cases.specs.Digits.{digit_of, spelled, name_of};
+ghost use Rattle.cases.specs.Digits.{digit_of, spelled};
 
-use anyhow::anyhow;
+use anyhow::{Context, bail};
 use printing::print::whole_text;
 use records::stage::Program;
 use std::alloc::Global;
@@ -17,40 +17,23 @@ fn main(rt: HostRuntime) -> anyhow::Result<()> {
 
 fn run(rt: &HostRuntime) -> anyhow::Result<()> {
     let mut out = BufWriter::new(rt.alloc(), rt.stdout())?;
-    let mut number: u64 = 0;
-    for line in BufReader::new(rt.alloc(), rt.stdin())?.lines(rt.alloc()) {
+    let lines = BufReader::new(rt.alloc(), rt.stdin())?.lines(rt.alloc());
+    for (number, line) in lines.enumerate() {
         run_case(rt.alloc(), number, line?.as_str(), &mut out)?;
-        number = number.saturating_add(1);
     }
     out.flush()?;
     Ok(())
 }
 
-fn run_case<W: Write>(heap: Global, number: u64, case: &str, out: &mut W) -> anyhow::Result<()> {
-    let Some((name, digits)) = case.split_once(' ') else {
-        return Err(anyhow!("a case has no program"));
-    };
-    let Some(program) = program_named(name) else {
-        return Err(anyhow!("a case names no program"));
-    };
+fn run_case<W: Write>(heap: Global, number: usize, case: &str, out: &mut W) -> anyhow::Result<()> {
+    let (name, digits) = case.split_once(' ').context("a case has no program")?;
+    let program = name
+        .parse::<Program>()
+        .ok()
+        .context("a case names no program")?;
     let input = from_digits(heap, digits.as_bytes())?;
     let text = whole_text(heap, program, input.as_slice())?;
     print_lines(number, text.as_str(), out)
-}
-
-// The program of this name.
-fn program_named(name: &str) -> Option<Program>
-    ensures { IfSome result (λ p. name.now ≡ name_of p) }
-{
-    if name == "admit" {
-        Some(Program::Admit)
-    } else if name == "ports" {
-        Some(Program::Ports)
-    } else if name == "evening" {
-        Some(Program::Evening)
-    } else {
-        None
-    }
 }
 
 // The number that a hexadecimal digit stands for.
@@ -65,16 +48,11 @@ fn digit(code: u8) -> Option<u8>
 }
 
 // The byte of two digits.
+#[tactic(auto, using(crate::proofs::SpelledLaws::spelled_byte))]
 fn byte_of(high: u8, low: u8) -> Option<u8>
     ensures { IfSome result (λ b. spelled (b ∷ []) ≡ high ∷ low ∷ []) }
 {
-    let Some(sixteens) = digit(high) else {
-        return None;
-    };
-    let Some(ones) = digit(low) else {
-        return None;
-    };
-    Some(sixteens * 16 + ones)
+    Some(digit(high)? * 16 + digit(low)?)
 }
 
 // The bytes that a row of digits spells.
@@ -83,20 +61,17 @@ fn from_digits(heap: Global, digits: &[u8]) -> anyhow::Result<Vec<u8>>
 {
     let mut bytes = Vec::new(heap);
     let mut rest = digits;
-    while rest.len() >= 2 {
-        let Some(byte) = byte_of(rest[0], rest[1]) else {
-            return Err(anyhow!("a case has a character that is no digit"));
-        };
-        bytes.push(byte)?;
-        rest = &rest[2..];
+    while let [high, low, tail @ ..] = rest {
+        bytes.push(byte_of(*high, *low).context("a case has a character that is no digit")?)?;
+        rest = tail;
     }
-    if rest.len() > 0 {
-        return Err(anyhow!("a case has an odd digit"));
+    if !rest.is_empty() {
+        bail!("a case has an odd digit");
     }
     Ok(bytes)
 }
 
-fn print_lines<W: Write>(number: u64, text: &str, out: &mut W) -> anyhow::Result<()> {
+fn print_lines<W: Write>(number: usize, text: &str, out: &mut W) -> anyhow::Result<()> {
     if text.is_empty() {
         writeln!(out, "{number}: -")?;
     }

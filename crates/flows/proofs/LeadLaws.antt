@@ -1,7 +1,7 @@
 -- The test of a road is passed by roads, and by nothing else. Assumes nothing.
-use Rattle.std.proofs.Common.{◌≡◌, ℕ, ◌<◌, ◌≤◌, Bool, true, false, not, ◌&&◌, eqb, ltb, List, [], ◌∷◌, length, get_or, sym, refl, ap, ◌∙◌, arith}
+use Rattle.std.proofs.Common.{◌≡◌, ℕ, ◌<◌, ◌≤◌, true, false, not, ◌&&◌, eqb, ltb, List, [], ◌∷◌, length, get_or, sym, refl, ap, arith}
 use Rattle.std.specs.List.{AllByRecursion as Each}
-use Rattle.std.proofs.lemmas.Bool.{and_parts, and_from, and_left, ltb-true, lt-ltb, eqb-true, eqb-false, eq-eqb, ne_eqb, not-true, not_from_false, or_parts, or_from}
+use Rattle.std.proofs.lemmas.Bool.{and_parts, and_from, ltb-true, lt-ltb, eqb-true, eqb-false, eq-eqb, ne_eqb, not-true, not_from_false, or_parts, or_from}
 use Rattle.flows.specs.Net.{NetModel, port_at}
 use Rattle.flows.specs.Flow.{Joined, IsRoad}
 use Rattle.flows.specs.FlowFormat.{passes}
@@ -67,12 +67,3 @@ pub goes_first : (net : NetModel) (p next : ℕ) (behind : List ℕ) → 0 < len
 unfolding goes_on
 goes_first net p next [] some is = absurd (omega arith)
 goes_first net p next (q ∷ qs) some is = ap (λ x. eqb (port_at net x).switch (port_at net p).ends) is
-
-module _ (net : NetModel) (p : ℕ) (ps : List ℕ) (whole : Bool) where
-  pub leads_not : false ≡ step_fits net p ps → leads net (p ∷ ps) ≡ whole → false ≡ whole
-  unfolding leads
-  leads_not step all = sym (and_left (step_fits net p ps) (leads net ps) (sym step)) ∙ all
-
-  pub leads-more : true ≡ step_fits net p ps → leads net (p ∷ ps) ≡ whole → leads net ps ≡ whole
-  unfolding leads
-  leads-more step all = let e : leads net (p ∷ ps) ≡ leads net ps = rw (← step) refl in sym e ∙ all

@@ -3,8 +3,8 @@ use Rattle.std.proofs.Common.{◌≡◌, ℕ, zero, suc, ◌+◌, ◌-◌, ◌<�
 use Rattle.std.proofs.lemmas.List.{take_more_set, append-nil, length_push, get_or-take}
 use Rattle.std.proofs.ByRecursion.{All-push, All-get_or}
 use Rattle.std.specs.List.{AllByRecursion as Each}
-use Rattle.std.proofs.lemmas.Bool.{le-ltb, lt-ltb, ltb-true, eqb-true, eqb-false, eq-eqb, ne_eqb, or_parts, or_from, and_parts, and_from, not-true, not_from_false}
-use Rattle.record_bytes.specs.Reading.{Cursor, Outcome, read, fault}
+use Rattle.std.proofs.lemmas.Bool.{lt-ltb, ltb-true, eqb-true, eqb-false, eq-eqb, ne_eqb, or_parts, or_from, and_parts, and_from, not-true, not_from_false}
+use Rattle.record_bytes.specs.Reading.{Cursor, Outcome, read, fault, and_then}
 use Rattle.record_bytes.specs.Numbers.{number, IsByte}
 use Rattle.record_bytes.proofs.Sequence.{both_read, test_passed}
 use Rattle.record_bytes.proofs.Digits.{bytes_of_one}
@@ -13,7 +13,7 @@ use Rattle.record_bytes.proofs.Steady.{Steady, cut_to, steady_then, steady_value
 use Rattle.flows.proofs.NetLaws.{in_table}
 use Rattle.flows.specs.Flow.{Once, Joined, IsRoad}
 use Rattle.flows.specs.Net.{NetModel, port_at}
-use Rattle.flows.specs.FlowFormat.{passes, joins, road_port, road_from}
+use Rattle.flows.specs.FlowFormat.{passes, joins, port_number, road_port, road_from}
 
 pub joins-first : (net : NetModel) (road : List ℕ) (p : ℕ) → length road ≤ 0 → true ≡ joins net road p
 unfolding joins
@@ -29,22 +29,29 @@ joins-last net (q ∷ r ∷ rs) p last some is =
     let at : suc (suc (length rs)) - 1 ≡ suc (suc (length rs) - 1) = omega arith in
     joins-last net (r ∷ rs) p last (omega arith) (rw at at is)
 
--- the next port of a road, in the order in which it is judged
+-- the next port of a road is a port of the net that may come next
 module _ (net : NetModel) (road : List ℕ) (c : Cursor) where
-  pub port_missing : (place : ℕ) → fault 1 place ≡ number 1 c → fault 1 place ≡ road_port net road c
+  abbrev judged : ℕ → Cursor → Outcome ℕ
+  judged p after = cond (not (passes p road) && joins net road p) (read p after) (fault 3 c.at)
+
+  pub road_port_by_number : road_port net road c ≡ and_then (port_number (length net.ports) c) judged
+  unfolding road_port port_number
+  road_port_by_number = of (number 1 c)
+    where
+      known : (b : Bool) (p : ℕ) (after : Cursor) → cond b (judged p after) (fault 2 c.at) ≡ and_then (cond b (read p after) (fault 2 c.at)) judged
+      known true p after = refl
+      known false p after = refl
+
+      of : (o : Outcome ℕ) → and_then o (λ p after. cond (ltb p (length net.ports)) (judged p after) (fault 2 c.at)) ≡
+          and_then (and_then o (λ p after. cond (ltb p (length net.ports)) (read p after) (fault 2 c.at))) judged
+      of (fault n p) = refl
+      of (read p after) = known (ltb p (length net.ports)) p after
+
+  port_missing : (place : ℕ) → fault 1 place ≡ number 1 c → fault 1 place ≡ road_port net road c
   unfolding road_port
   port_missing place is = rw (← is) refl
 
-  pub port_unknown : (p : ℕ) (after : Cursor) → read p after ≡ number 1 c → length net.ports ≤ p → fault 2 c.at ≡ road_port net road c
-  unfolding road_port
-  port_unknown p after is past = rw (← is, le-ltb p (length net.ports) past) refl
-
-  pub port_barred : (p : ℕ) (after : Cursor) → read p after ≡ number 1 c → p < length net.ports →
-      (not (passes p road) && joins net road p) ≡ false → fault 3 c.at ≡ road_port net road c
-  unfolding road_port
-  port_barred p after is known barred = rw (← is, lt-ltb p (length net.ports) known, barred) refl
-
-  pub port-taken : (p : ℕ) (after : Cursor) → read p after ≡ number 1 c → p < length net.ports →
+  port-taken : (p : ℕ) (after : Cursor) → read p after ≡ number 1 c → p < length net.ports →
       (not (passes p road) && joins net road p) ≡ true → read p after ≡ road_port net road c
   unfolding road_port
   port-taken p after is known may = rw (← is, lt-ltb p (length net.ports) known, may) refl

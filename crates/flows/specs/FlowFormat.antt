@@ -1,7 +1,7 @@
 -- The bytes of a flow. Assumes nothing.
 use Rattle.std.specs.Prelude.{ℕ, zero, suc, Bool, true, false, cond, not, ◌&&◌, ◌||◌, List, [], ◌∷◌, ◌++◌, length, ◌==◌, nat_lt}
 use Rattle.record_bytes.specs.Reading.{Cursor, Outcome, read, fault, Verdict, ◌>>=◌, ◌>>◌, pure, and_then, closed, start}
-use Rattle.record_bytes.specs.Numbers.{number, ranged, kind_byte, bytes_of}
+use Rattle.record_bytes.specs.Numbers.{number, tested, ranged, kind_byte, bytes_of}
 use Rattle.flows.specs.Net.{NetModel, port_at}
 use Rattle.flows.specs.Flow.{FlowModel}
 
@@ -15,6 +15,10 @@ unfoldable pub joins : NetModel → List ℕ → ℕ → Bool
 joins net [] p = true
 joins net (q ∷ []) p = (port_at net q).ends == (port_at net p).switch
 joins net (q ∷ r ∷ rs) p = joins net (r ∷ rs) p
+
+-- one of so many ports; any other is fault 2
+unfoldable pub port_number : ℕ → Cursor → Outcome ℕ
+port_number ports = tested 1 (λ p. nat_lt p ports) 2
 
 -- The next port of a road. One that the net has not is fault 2; one that is on the road already, or may not follow it, is 3.
 unfoldable pub road_port : NetModel → List ℕ → Cursor → Outcome ℕ

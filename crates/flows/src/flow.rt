@@ -1,7 +1,7 @@
 ghost use Rattle.std.specs.Prelude.{ℕ, ◌<◌, ◌≤◌, length, slice_index};
 
 // A flow: lengths and bursts in ticks of sending, its rate in millionths of a port, its deadline in ticks, and the
-// ports of its road, of which the first hops are in use.
+// ports of its road, of which the first hops are in use. The road stands in the flow itself, which is handed on by value.
 #[derive(Clone, Copy)]
 pub struct Flow {
     pub class: u8,

@@ -4,6 +4,7 @@ ghost use Rattle.flows.specs.Net.{SoundPort, no_port};
 use super::port::Port;
 
 // A net of count ports and of switches with their memory in ticks; the rest of each table is unused.
+// The tables stand in the net itself: reading a net cannot fail for want of memory.
 #[derive(Clone, Copy)]
 pub struct Net {
     pub ports: [Port; 64],

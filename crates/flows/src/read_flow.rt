@@ -1,8 +1,7 @@
 // Flows from bytes.
-ghost use Rattle.std.specs.Prelude.{◌≡◌, ◌≤◌, [], take};
+ghost use Rattle.std.specs.Prelude.{◌≡◌, ◌≤◌, [], take, length};
 ghost use Rattle.record_bytes.specs.Answers.{cursor, part, verdict};
-ghost use Rattle.flows.specs.FlowFormat.{road_port, road_from, flow_from, flow_record, flow_bytes};
-ghost use Rattle.record_bytes.specs.Reading.{start};
+ghost use Rattle.flows.specs.FlowFormat.{port_number, road_port, road_from, flow_from, flow_record, flow_bytes};
 ghost use Rattle.record_bytes.specs.Format.{Format};
 ghost use Rattle.flows.specs.Flow.{SoundFlow};
 ghost use Rattle.flows.specs.Models.{net_of, flow_of};
@@ -11,20 +10,31 @@ use super::flow::Flow;
 use super::net::Net;
 use super::road::{follows, on_road};
 use record_bytes::fault::Fault;
+use record_bytes::kind::Kind;
 use record_bytes::piece::Piece;
 use record_bytes::reader::Reader;
+
+// The number of a port of a net.
+#[tactic(auto, unfolding(crate::specs::FlowFormat::port_number))]
+pub fn read_port_number(reader: &mut Reader, net: &Net) -> Result<u8, Fault>
+    ensures { part (λ p. p) result (cursor reader.new) ≡ port_number (length (net_of net.now).ports) (cursor reader.old) }
+{
+    let at = reader.at;
+    let Some(port) = reader.number::<u8>() else {
+        return Err(reader.missing());
+    };
+    if port >= net.count {
+        return Err(Fault::Range { at });
+    }
+    Ok(port)
+}
 
 // The next port of a road.
 fn read_road_port(reader: &mut Reader, net: &Net, road: &[u8]) -> Result<u8, Fault>
     ensures { part (λ p. p) result (cursor reader.new) ≡ road_port (net_of net.now) road.now (cursor reader.old) }
 {
     let at = reader.at;
-    let Some(port) = reader.byte() else {
-        return Err(reader.missing());
-    };
-    if port >= net.count {
-        return Err(Fault::Range { at });
-    }
+    let port = read_port_number(reader, net)?;
     if on_road(port, road) || !follows(net, road, port) {
         return Err(Fault::Road { at });
     }
@@ -36,25 +46,26 @@ fn read_road(reader: &mut Reader, net: &Net, hops: u8) -> Result<[u8; 16], Fault
     ensures { part (take hops) result (cursor reader.new) ≡ road_from (net_of net.now) hops [] (cursor reader.old) }
 {
     let mut road = [0; 16];
+    // By their number, since each port is judged by those before it in the same table.
     for i in 0..hops as usize {
-        let port = read_road_port(reader, net, &road[0..i])?;
-        road[i] = port;
+        road[i] = read_road_port(reader, net, &road[..i])?;
     }
     Ok(road)
 }
 
+#[tactic(auto, unfolding(crate::specs::FlowFormat::flow_from))]
 fn read_parts(reader: &mut Reader, net: &Net) -> Result<Flow, Fault>
     ensures { part flow_of result (cursor reader.new) ≡ flow_from (net_of net.now) (cursor reader.old) }
 {
-    reader.kind(1)?;
-    let class = reader.byte_in(0, 7)?;
-    let longest = reader.byte_in(1, 255)?;
-    let burst = reader.short_in(longest as u16, 65535)?;
-    let rate = reader.word_in(1, 1_000_000)?;
-    let Some(deadline) = reader.word() else {
+    reader.kind(Kind::Flow.byte())?;
+    let class = reader.number_in(0, 7)?;
+    let longest: u8 = reader.number_in(1, 255)?;
+    let burst = reader.number_in(longest as u32, 65535)?;
+    let rate = reader.number_in(1, 1_000_000)?;
+    let Some(deadline) = reader.number() else {
         return Err(reader.missing());
     };
-    let hops = reader.byte_in(1, 16)?;
+    let hops = reader.number_in(1, 16)?;
     let road = read_road(reader, net, hops)?;
     Ok(Flow {
         class,
@@ -67,20 +78,12 @@ fn read_parts(reader: &mut Reader, net: &Net) -> Result<Flow, Fault>
     })
 }
 
-// A reader before the record of a flow. The laws are those of the flow's format.
-fn before_flow<'a>(bytes: &'a [u8], net: &Net) -> Reader<'a>
-    ensures place { cursor result ≡ start bytes.now }
-    ensures format { Format (SoundFlow (net_of net.now)) (flow_record (net_of net.now)) flow_bytes }
-{
-    Reader::new(bytes)
-}
-
 // A flow of a net.
 pub fn read_flow(piece: Piece, net: &Net) -> Result<Flow, Fault>
     ensures value { verdict flow_of result ≡ flow_record (net_of net.now) piece.entry.whole piece.entry.bytes.now }
     ensures format { Format (SoundFlow (net_of net.now)) (flow_record (net_of net.now)) flow_bytes }
 {
-    let mut reader = before_flow(piece.bytes, net);
+    let mut reader = Reader::new(piece.bytes);
     let flow = read_parts(&mut reader, net)?;
     reader.close(piece.whole, flow)
 }

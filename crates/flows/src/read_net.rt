@@ -1,6 +1,6 @@
 // Nets from bytes.
-ghost use Rattle.std.specs.Prelude.{◌≡◌, ◌≤◌, [], take};
-ghost use Rattle.record_bytes.specs.Reading.{several, start};
+ghost use Rattle.std.specs.Prelude.{◌≡◌, length};
+ghost use Rattle.record_bytes.specs.Reading.{Cursor, Outcome, several};
 ghost use Rattle.record_bytes.specs.Numbers.{ranged};
 ghost use Rattle.record_bytes.specs.Answers.{cursor, part, verdict};
 ghost use Rattle.record_bytes.specs.Format.{Format};
@@ -10,36 +10,51 @@ ghost use Rattle.flows.specs.Models.{net_of};
 use super::net::Net;
 use super::port::Port;
 use record_bytes::fault::Fault;
+use record_bytes::kind::Kind;
 use record_bytes::piece::Piece;
 use record_bytes::reader::Reader;
 
-fn read_port(reader: &mut Reader) -> Result<Port, Fault>
-    ensures { part (λ p. p) result (cursor reader.new) ≡ port_from (cursor reader.old) }
-{
-    let Some(switch) = reader.byte() else {
-        return Err(reader.missing());
-    };
-    let Some(ends) = reader.byte() else {
-        return Err(reader.missing());
-    };
-    let wire = reader.short_in(0, 1023)?;
-    Ok(Port { switch, ends, wire })
+// A part of a net that stands there several times.
+trait Part: Copy {
+    ghost from: { Cursor → Outcome Self };
+
+    fn read(reader: &mut Reader) -> Result<Self, Fault>
+        ensures { part (λ p. p) result (cursor reader.new) ≡ from (cursor reader.old) };
 }
 
-fn read_ports(reader: &mut Reader, count: u8) -> Result<[Port; 64], Fault>
-    requires { count ≤ 64 }
-    ensures { part (take count) result (cursor reader.new) ≡ several count port_from (cursor reader.old) }
-{
-    let mut ports = [Port {
-        switch: 0,
-        ends: 0,
-        wire: 0,
-    }; 64];
-    for i in 0..count as usize {
-        let port = read_port(reader)?;
-        ports[i] = port;
+impl Part for Port {
+    ghost from = { port_from };
+
+    #[tactic(auto, unfolding(crate::specs::NetFormat::port_from))]
+    fn read(reader: &mut Reader) -> Result<Port, Fault> {
+        let Some(switch) = reader.number() else {
+            return Err(reader.missing());
+        };
+        let Some(ends) = reader.number() else {
+            return Err(reader.missing());
+        };
+        let wire = reader.number_in(0, 1023)?;
+        Ok(Port { switch, ends, wire })
     }
-    Ok(ports)
+}
+
+// The memory of a switch, in ticks.
+impl Part for u32 {
+    ghost from = { ranged 4 0 1048576 };
+
+    fn read(reader: &mut Reader) -> Result<u32, Fault> {
+        reader.number_in(0, 1_048_576)
+    }
+}
+
+// Parts one after the other, as many as there are places for them.
+fn read_all<T: Part>(reader: &mut Reader, places: &mut [T]) -> Result<(), Fault>
+    ensures { part (λ _. places.new) result (cursor reader.new) ≡ several (length places.old) T.from (cursor reader.old) }
+{
+    for place in places {
+        *place = T::read(reader)?;
+    }
+    Ok(())
 }
 
 // How many switches the ports name, counted from 0; at least as many as are asked for anyway.
@@ -53,26 +68,18 @@ fn switches_needed(least: u16, ports: &[Port]) -> u16
     most
 }
 
-fn read_memories(reader: &mut Reader, switches: u8) -> Result<[u32; 255], Fault>
-    ensures { part (take switches) result (cursor reader.new) ≡ several switches (ranged 4 0 1048576) (cursor reader.old) }
-{
-    let mut memory = [0; 255];
-    for i in 0..switches as usize {
-        let ticks = reader.word_in(0, 1_048_576)?;
-        memory[i] = ticks;
-    }
-    Ok(memory)
-}
-
+#[tactic(auto, unfolding(crate::specs::NetFormat::net_from))]
 fn read_parts(reader: &mut Reader, least: u16) -> Result<Net, Fault>
     ensures { part net_of result (cursor reader.new) ≡ net_from least (cursor reader.old) }
 {
-    reader.kind(2)?;
-    let count = reader.byte_in(0, 64)?;
-    let ports = read_ports(reader, count)?;
-    let needed = switches_needed(least, &ports[0..count as usize]);
-    let switches = reader.byte_in(needed, 255)?;
-    let memory = read_memories(reader, switches)?;
+    reader.kind(Kind::Net.byte())?;
+    let count: u8 = reader.number_in(0, 64)?;
+    let mut ports = [Port::default(); 64];
+    read_all(reader, &mut ports[..count as usize])?;
+    let needed = switches_needed(least, &ports[..count as usize]);
+    let switches: u8 = reader.number_in(needed as u32, 255)?;
+    let mut memory = [0; 255];
+    read_all(reader, &mut memory[..switches as usize])?;
     Ok(Net {
         ports,
         count,
@@ -81,20 +88,13 @@ fn read_parts(reader: &mut Reader, least: u16) -> Result<Net, Fault>
     })
 }
 
-// A reader before the record of a net. The laws are those of the net's format.
-fn before_net<'a>(bytes: &'a [u8], least: u16) -> Reader<'a>
-    ensures place { cursor result ≡ start bytes.now }
-    ensures format { Format (SoundAtLeast least) (net_record least) net_bytes }
-{
-    Reader::new(bytes)
-}
-
 // A net of at least so many switches.
+#[tactic(auto, using(crate::proofs::NetBytes::net_format))]
 pub fn read_net(piece: Piece, least: u16) -> Result<Net, Fault>
     ensures value { verdict net_of result ≡ net_record least piece.entry.whole piece.entry.bytes.now }
     ensures format { Format (SoundAtLeast least) (net_record least) net_bytes }
 {
-    let mut reader = before_net(piece.bytes, least);
+    let mut reader = Reader::new(piece.bytes);
     let net = read_parts(&mut reader, least)?;
     reader.close(piece.whole, net)
 }

@@ -11,70 +11,65 @@ use super::net::Net;
 pub(crate) fn on_road(port: u8, road: &[u8]) -> bool
     ensures { result ≡ passes port road.now }
 {
-    for other in road {
-        if port == *other {
-            return true;
-        }
-    }
-    false
+    road.contains(&port)
 }
 
 // Whether a port may follow a road: as its first, or on the switch where the wire of the last one ends.
 pub(crate) fn follows(net: &Net, road: &[u8], port: u8) -> bool
     ensures { result ≡ joins (net_of net.now) road.now port }
 {
-    let Some(last) = road.last() else {
-        return true;
-    };
-    net.port(*last).ends == net.port(port).switch
+    road.last()
+        .is_none_or(|last| net.port(*last).ends == net.port(port).switch)
 }
 
 impl Flow {
+    // The ports of the road: those of the hops in use.
+    pub fn road(&self) -> &[u8]
+        ensures { result.now ≡ (flow_of self.now).road }
+    {
+        &self.road[..usize::from(self.hops)]
+    }
+
     // Whether a port stands on the road of this flow.
     pub fn passes(&self, port: u8) -> bool
         ensures { result ≡ passes port (flow_of self.now).road }
     {
-        let hops = self.hops as usize;
-        on_road(port, &self.road[0..hops])
+        on_road(port, self.road())
     }
 }
 
 impl Net {
     // Whether a road leads through this net: over ports that it has, none of them twice, each on the switch where the
-    // wire of the one before ends.
+    // wire of the one before ends. The law says that the test is passed by roads alone.
+    #[tactic(auto, unfolding(crate::specs::Roads::leads))]
     pub fn has_road(&self, road: &[u8]) -> bool
-        ensures { result ≡ leads (net_of self.now) road.now }
+        ensures value { result ≡ leads (net_of self.now) road.now }
+        ensures law { LeadsExactly }
     {
-        leads_on(self, road)
-    }
-}
-
-fn leads_on(net: &Net, road: &[u8]) -> bool
-    ensures { result ≡ leads (net_of net.now) road.now }
-{
-    for i in 0..road.len() {
-        let next = i + 1;
-        if !step_fits(net, road[i], &road[next..]) {
-            return false;
+        let mut rest = road;
+        while let Some((port, behind)) = rest.split_first() {
+            if !self.step_fits(*port, behind) {
+                return false;
+            }
+            rest = behind;
         }
+        true
     }
-    true
-}
 
-// Whether a port is one of the net, does not come again, and goes on to the next.
-fn step_fits(net: &Net, port: u8, behind: &[u8]) -> bool
-    ensures { result ≡ step_fits (net_of net.now) port behind.now }
-{
-    port < net.count && !on_road(port, behind) && goes_on(net, port, behind)
-}
+    // Whether a port is one of the net, does not come again, and goes on to the next.
+    fn step_fits(&self, port: u8, behind: &[u8]) -> bool
+        ensures { result ≡ step_fits (net_of self.now) port behind.now }
+    {
+        port < self.count && !on_road(port, behind) && self.goes_on(port, behind)
+    }
 
-// The law says that the test of a road is passed by roads alone.
-fn goes_on(net: &Net, port: u8, behind: &[u8]) -> bool
-    ensures value { result ≡ goes_on (net_of net.now) port behind.now }
-    ensures law { LeadsExactly }
-{
-    let Some(next) = behind.first() else {
-        return true;
-    };
-    net.port(*next).switch == net.port(port).ends
+    // Whether the next port, if there is one, stands on the switch where the wire of this one ends.
+    #[tactic(auto, using(crate::proofs::LeadLaws::goes_none, crate::proofs::LeadLaws::goes_first))]
+    fn goes_on(&self, port: u8, behind: &[u8]) -> bool
+        ensures { result ≡ goes_on (net_of self.now) port behind.now }
+    {
+        behind
+            .first()
+            .is_none_or(|next| self.port(*next).switch == self.port(port).ends)
+    }
 }

@@ -38,7 +38,7 @@ module _ (room : ℕ) (at_edge : Bool) (classes : List ℕ) (tick : ℕ) where
         allowed = tt;
         spent = refl;
         queued = refl;
-        held = λ p some. let z : ◌≡◌ {A = ℕ} 0 1 = cc in absurd (omega arith);
+        held = λ p some. cc;
       }
   gate_regulates (p ∷ ps) levels ls =
       elim (cases_Bool (may_go room classes tick p levels ls)) [

@@ -1,11 +1,9 @@
 -- One step of a gate: its first passes, or it has been opened. Assumes nothing.
-use Rattle.std.proofs.Common.{◌≡◌, ℕ, ◌<◌, Bool, true, false, List, [], ◌∷◌, map, length, Some, None, sym, refl, ap, ◌∙◌, subst, inl, inr, arith}
-use Rattle.std.proofs.lemmas.Bool.{cases_Bool}
+use Rattle.std.proofs.Common.{◌≡◌, ℕ, Bool, true, false, List, [], ◌∷◌, map, Some, None, sym, refl, ap, ◌∙◌, subst}
 use Rattle.lines.specs.declared.line.Line.{Line}
 use Rattle.lines.specs.declared.packet.Packet.{Packet}
-use Rattle.lines.specs.Lines.{waits, Fits, head_of, tail_of, some_wait, shorter, dropped_line}
+use Rattle.lines.specs.Lines.{waits, Fits, head_of, tail_of, shorter}
 use Rattle.lines.specs.Means.{Shorter}
-use Rattle.lines.proofs.Meanings.{some_fits}
 use Rattle.levels.specs.declared.level.Level.{Level}
 use Rattle.levels.specs.Levels.{LevelModel}
 use Rattle.levels.specs.Models.{level_model}
@@ -14,19 +12,6 @@ use Rattle.queues.specs.declared.queues_of.Queues.{Queues}
 use Rattle.queues.specs.Held.{Holds}
 use Rattle.gates.specs.Gates.{Opened, may_go, spent_by, queued_by, opened}
 use Rattle.gates.specs.Opens.{Opens, Ends}
-
--- a line without its first is shorter
-pub drop_less : (cells : List Packet) (line next : Line) → Some next ≡ dropped_line (length cells) line → next.count < line.count
-drop_less cells line next is =
-    elim (cases_Bool (some_wait (length cells) line)) [
-      | inl some ↦
-          let here : Some next ≡ Some (shorter (length cells) line) = rw some at is in
-          let same : next ≡ shorter (length cells) line = cc in
-          omega (arith, ap (λ l. l.count) same, (some_fits cells line some).1)
-      | inr none ↦
-          let nowhere : Some next ≡ None = rw none at is in
-          let z : ◌≡◌ {A = ℕ} 0 1 = cc in absurd (omega arith)
-    ]
 
 module _ (room : ℕ) (at_edge : Bool) (classes : List ℕ) (tick : ℕ) where
   -- a gate that has been opened
@@ -37,12 +22,12 @@ module _ (room : ℕ) (at_edge : Bool) (classes : List ℕ) (tick : ℕ) where
       opened room at_edge classes tick ws levels ls ≡ as_is ws levels ls
   unfolding opened
   nobody [] levels ls none = refl
-  nobody (p ∷ ps) levels ls none = let z : ◌≡◌ {A = ℕ} 0 1 = cc in absurd (omega arith)
+  nobody (p ∷ ps) levels ls none = cc
 
   stays : (ws : List Packet) (levels : List LevelModel) (ls : List (List Packet)) (p : Packet) → Some p ≡ head_of ws →
       false ≡ may_go room classes tick p levels ls → opened room at_edge classes tick ws levels ls ≡ as_is ws levels ls
   unfolding opened
-  stays [] levels ls p some not = let z : ◌≡◌ {A = ℕ} 0 1 = cc in absurd (omega arith)
+  stays [] levels ls p some not = cc
   stays (q ∷ ps) levels ls p some not =
       let same : p ≡ q = cc in
       let not' : may_go room classes tick q levels ls ≡ false = sym (not ∙ ap (λ x. may_go room classes tick x levels ls) same) in
@@ -53,7 +38,7 @@ module _ (room : ℕ) (at_edge : Bool) (classes : List ℕ) (tick : ℕ) where
       opened room at_edge classes tick (tail_of ws) (spent_by tick p levels) (queued_by at_edge classes tick p ls) ≡
       opened room at_edge classes tick ws levels ls
   unfolding opened
-  goes [] levels ls p some may = let z : ◌≡◌ {A = ℕ} 0 1 = cc in absurd (omega arith)
+  goes [] levels ls p some may = cc
   goes (q ∷ ps) levels ls p some may =
       let same : p ≡ q = cc in
       let may' : may_go room classes tick q levels ls ≡ true = sym (may ∙ ap (λ x. may_go room classes tick x levels ls) same) in
@@ -96,22 +81,3 @@ module _ (room : ℕ) (at_edge : Bool) (classes : List ℕ) (tick : ℕ) where
               ∙ ap (λ lv. opened room at_edge classes tick (tail_of (waits waiting line)) lv (queued_by at_edge classes tick p ls)) is
               ∙ goes (waits waiting line) (map level_model levels) ls p some may;
         }
-
--- a step of a gate that is being opened
-module _ (room size : ℕ) (at_edge : Bool) (classes : List ℕ) (tick : ℕ) (waiting : List Packet) (line : Line) (before : List Level)
-    (now : List (List Packet)) (o : Opened) (same : size ≡ room)
-    (sofar : opened room at_edge classes tick (waits waiting line) (map level_model before) now ≡ o)
-    (next : Line) (levels : List Level) (queues : Queues) (memory : List Cell) where
-  pub ends_on :
-      Ends size at_edge classes tick waiting next levels queues memory (opened size at_edge classes tick (waits waiting line) (map level_model before) now) →
-      Ends room at_edge classes tick waiting next levels queues memory o
-  ends_on more =
-      subst (Ends room at_edge classes tick waiting next levels queues memory) sofar
-      (subst (λ n. Ends n at_edge classes tick waiting next levels queues memory (opened n at_edge classes tick (waits waiting line) (map level_model before) now)) same more)
-
-  pub opens-on :
-      Opens waiting next levels queues memory (opened size at_edge classes tick (waits waiting line) (map level_model before) now) →
-      Opens waiting next levels queues memory o
-  opens-on opens =
-      subst (Opens waiting next levels queues memory) sofar
-      (subst (λ n. Opens waiting next levels queues memory (opened n at_edge classes tick (waits waiting line) (map level_model before) now)) same opens)

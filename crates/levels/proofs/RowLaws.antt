@@ -23,12 +23,9 @@ abbrev pub Fronts : ℕ → ℕ → ℕ → ℕ → List Pass → Type 0
 Fronts rate w x s history =
     (p : Pass) (ps older : List Pass) → p ∷ (ps ++ older) ≡ history → den * (w + ticks_of (p ∷ ps)) ≤ x + rate * (s - (oldest p ps).at)
 
-none_in : (p : Pass) (ps : List Pass) → p ∷ ps ≡ [] → ⊥
-none_in p ps e = let z : ◌≡◌ {A = ℕ} 0 1 = cc in omega arith
-
 oldest-before : (history : List Pass) (t : ℕ) → NotBefore history t → InOrder history → (p : Pass) (ps older : List Pass) →
     p ∷ (ps ++ older) ≡ history → (oldest p ps).at ≤ t
-oldest-before [] t late order p ps older e = absurd (none_in p (ps ++ older) e)
+oldest-before [] t late order p ps older e = cc
 oldest-before (q ∷ history) t late order p [] older e =
     let same : p ≡ q = cc in
     let tick = ap (λ (x : Pass). x.at) same in
@@ -47,7 +44,7 @@ ticks_by rate o q s a b =
 -- for any w and x: what is lacked fits exactly if each row does
 pub fronts_fit : (rate : ℕ) (history : List Pass) (w x s : ℕ) → NotBefore history s → InOrder history →
     den * w + deficit rate history s ≤ x → Fronts rate w x s history
-fronts_fit rate [] w x s late order fits p ps older e = absurd (none_in p (ps ++ older) e)
+fronts_fit rate [] w x s late order fits p ps older e = cc
 fronts_fit rate (q ∷ history) w x s late order fits p [] older e =
     let same : p ≡ q = cc in
     rw same (omega arith)
@@ -77,8 +74,8 @@ fit_fronts rate (q ∷ history) w x s late order fronts some =
 -- rows of a history with one pass more are those that begin with it, and those of the history
 module _ (burst rate : ℕ) where
   pub regular-none : Regular burst rate []
-  regular-none [] rest older newest e = absurd (none_in newest (rest ++ older) e)
-  regular-none (n ∷ newer) rest older newest e = absurd (none_in n (newer ++ (newest ∷ (rest ++ older))) e)
+  regular-none [] rest older newest e = cc
+  regular-none (n ∷ newer) rest older newest e = cc
 
   pub regular_older : (p : Pass) (history : List Pass) → Regular burst rate (p ∷ history) → Regular burst rate history
   regular_older p history regular newer rest older newest e = regular (p ∷ newer) rest older newest (ap (λ h. p ∷ h) e)

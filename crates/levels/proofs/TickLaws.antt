@@ -2,6 +2,7 @@
 use Rattle.std.proofs.Common.{◌≡◌, ℕ, ◌+◌, ◌-◌, ◌*◌, ◌/◌, ◌^◌, ◌<◌, ◌≤◌, Bool, true, false, cond, ltb, leb, ◌⊎◌, Some, None, Option, refl, inl, inr, mul_comm, div-mul-le_self, arith}
 use native.Mathlib.Nat.{lt-div-mul-add}
 use Rattle.std.proofs.lemmas.Nat.{mul-le}
+use Rattle.std.proofs.lemmas.Option.{cond_some}
 use Rattle.std.proofs.lemmas.Bool.{leb-true, leb-false, ltb-false, le-leb, lt-leb, le-ltb}
 use Rattle.levels.specs.Levels.{den, LevelModel, level_at, may_pass, tick_of, shortfall, wait}
 use Rattle.levels.specs.Laws.{Sound, FirstIsFirst, NoneIsNever}
@@ -34,20 +35,20 @@ enough short r d some more =
 
 some-only : {X : Type 0} (b : Bool) (o : Option X) (x : X) → cond b o None ≡ Some x → (b ≡ true) × (o ≡ Some x)
 some-only true o x e = (refl, e)
-some-only false o x e = absurd (let z : ◌≡◌ {A = ℕ} 0 1 = cc in omega arith)
+some-only false o x e = cc
 
 none_only : {X : Type 0} (b : Bool) (o : Option X) → cond b o None ≡ None → (b ≡ false) ⊎ (o ≡ None)
 none_only true o e = inr e
 none_only false o e = inl refl
 
 tick-only : (n t : ℕ) → tick_of n ≡ Some t → n ≡ t
-tick-only n t e = let s = (some-only (ltb n (2 ^ 64)) (Some n) t e).1 in cc
+tick-only n t e = (cond_some (ltb n (2 ^ 64)) n t e).1
 
 past-only : (n : ℕ) → tick_of n ≡ None → 2 ^ 64 ≤ n
 past-only n e =
     elim (none_only (ltb n (2 ^ 64)) (Some n) e) [
       | inl past ↦ ltb-false n (2 ^ 64) past
-      | inr never ↦ absurd (let z : ◌≡◌ {A = ℕ} 0 1 = cc in omega arith)
+      | inr never ↦ cc
     ]
 
 -- before the wait is over it may not pass

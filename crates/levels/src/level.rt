@@ -2,7 +2,7 @@ ghost use Rattle.std.specs.Prelude.{◌*◌, ◌≤◌};
 
 // What a flow may still send into a queue: its level in millionths of a tick at its last tick, which never passes its
 // burst.
-#[derive(Clone, Copy)]
+#[derive(Clone, Copy, Debug, PartialEq, Eq)]
 pub struct Level {
     pub burst: u16,
     pub rate: u32,

@@ -4,10 +4,10 @@ ghost use Rattle.std.specs.Prelude.{◌≡◌, ◌*◌, ◌≤◌};
 fn times(a: u32, b: u32) -> u64
     ensures { result ≡ a * b }
 {
-    a as u64 * b as u64
+    u64::from(a) * u64::from(b)
 }
 
-// A rate times ticks, which are split at 32 bits.
+// A rate times ticks, which are split at 32 bits: products of 32-bit numbers in 64 bits are a rule of the project.
 pub(crate) fn product(rate: u32, ticks: u64) -> u64
     requires { (rate ≤ 1000000) × (ticks ≤ 65535000000) }
     ensures { result ≡ rate * ticks }

@@ -24,7 +24,7 @@ impl Level {
         Some(Level {
             burst,
             rate,
-            level: DEN * burst as u64,
+            level: DEN * u64::from(burst),
             last: 0,
         })
     }
@@ -36,6 +36,7 @@ impl Level {
         if tick < self.last {
             return self;
         }
+        // Each field is written: a struct with ghost fields takes no `..self`.
         Level {
             burst: self.burst,
             rate: self.rate,
@@ -44,12 +45,12 @@ impl Level {
         }
     }
 
-    // Whether a packet of this length may pass at its last tick.
+    // Whether a packet of this length may pass at its last tick. The laws are those of levels.
     pub fn may_pass(self, length: u8) -> bool
         ensures value { result ≡ passes_now (level_model self) length }
         ensures laws { LevelLaws }
     {
-        self.covers(length)
+        DEN * u64::from(length) <= self.level
     }
 
     // A packet of this length passes; where it may not, nothing changes.
@@ -59,10 +60,11 @@ impl Level {
         if !self.may_pass(length) {
             return self;
         }
+        // Each field is written: a struct with ghost fields takes no `..self`.
         Level {
             burst: self.burst,
             rate: self.rate,
-            level: self.level - DEN * length as u64,
+            level: self.level - DEN * u64::from(length),
             last: self.last,
         }
     }
@@ -72,7 +74,7 @@ impl Level {
     pub fn first_pass(self, length: u8) -> Option<u64>
         ensures { result ≡ first_pass (level_model self) length }
     {
-        if length as u16 > self.burst {
+        if u16::from(length) > self.burst {
             return None;
         }
         self.last.checked_add(self.wait(length))
@@ -83,28 +85,19 @@ impl Level {
         ensures value { result ≡ refilled (level_model self) ticks }
         ensures low { result ≤ 1000000 * self.burst }
     {
-        let all = DEN * self.burst as u64;
+        let all = DEN * u64::from(self.burst);
         if ticks > FILLING {
             return all;
         }
         all.min(self.level + product(self.rate, ticks))
     }
 
-    // Whether its level is enough for a packet of this length. The laws are those of levels.
-    fn covers(self, length: u8) -> bool
-        ensures value { result ≡ passes_now (level_model self) length }
-        ensures laws { LevelLaws }
-    {
-        DEN * length as u64 <= self.level
-    }
-
     // Ticks until a packet of this length may pass.
     fn wait(self, length: u8) -> u64
         ensures { result ≡ wait (level_model self) length }
     {
-        let shortfall = (DEN * length as u64).saturating_sub(self.level);
-        let rate = self.rate as u64;
-        (shortfall + (rate - 1)) / rate
+        let shortfall = (DEN * u64::from(length)).saturating_sub(self.level);
+        shortfall.div_ceil(u64::from(self.rate))
     }
 }
 

@@ -1,29 +1,11 @@
 -- What the answers of a line say of what waits. Assumes nothing.
-use Rattle.std.proofs.Common.{◌≡◌, ℕ, suc, ◌-◌, ◌<◌, ◌≤◌, true, false, ◌&&◌, ltb, leb, List, ◌++◌, length, get_or, take, drop, set, Some, Option, sym, refl, ap, ◌∙◌, inl, inr, arith}
-use Rattle.std.proofs.lemmas.List.{length-set, take_rest, drop_all}
-use Rattle.std.proofs.lemmas.Bool.{cases_lt, cases_Bool, lt-ltb, le-ltb, le-leb, ltb-true, leb-true, and_from, and_right, and_parts}
+use Rattle.std.proofs.Common.{◌≡◌, suc, ◌-◌, ◌<◌, ◌≤◌, true, false, ◌&&◌, ltb, leb, List, length, set, Option, refl, ap, ◌∙◌, inl, inr, arith}
+use Rattle.std.proofs.lemmas.List.{length-set}
+use Rattle.std.proofs.lemmas.Bool.{cases_lt, lt-ltb, le-ltb, le-leb, ltb-true, leb-true, and_from, and_right, and_parts}
 use Rattle.lines.specs.declared.line.Line.{Line}
-use Rattle.lines.specs.Lines.{
-  waiting,
-  waits,
-  Fits,
-  head_of,
-  tail_of,
-  place_after,
-  some_wait,
-  has_room,
-  end_place,
-  longer,
-  pushed_line,
-  pushed_cells,
-  first_waiting,
-  shorter,
-  dropped_line,
-  begin_of,
-  from_first,
-}
+use Rattle.lines.specs.Lines.{waiting, Fits, tail_of, place_after, some_wait, has_room, end_place, longer, pushed_line, pushed_cells, shorter, dropped_line}
 use Rattle.lines.specs.Means.{Longer, PushMeans, Shorter, DropMeans}
-use Rattle.lines.proofs.Rounds.{push_waits, first-waits, drop-waits}
+use Rattle.lines.proofs.Rounds.{push_waits, drop-waits}
 
 -- what the tests say of a line that fits
 module _ {X : Type 0} (cells : List X) (line : Line) (fits : Fits cells line) where
@@ -100,33 +82,3 @@ some_fits cells line some =
     let begins = and_parts (ltb line.first (length cells)) (leb line.count (length cells) && ltb 0 line.count) some in
     let rest = and_parts (leb line.count (length cells)) (ltb 0 line.count) begins.1 in
     ((ltb-true line.first (length cells) begins.0, leb-true line.count (length cells) rest.0), ltb-true 0 line.count rest.1)
-
--- what is read at its first place is the first that waits
-pub first_read : {X : Type 0} (cells : List X) (line : Line) (x : X) → some_wait (length cells) line ≡ true →
-    x ≡ get_or cells line.first x → (Some x ≡ first_waiting cells line) × (Some x ≡ head_of (waits cells line))
-first_read cells line x some read =
-    let known = some_fits cells line some in
-    let whole : suc (line.count - 1) ≡ line.count = omega arith in
-    let here : Some x ≡ head_of (waits cells line) =
-    ap Some read ∙ sym (first-waits cells line.first known.0.0 (line.count - 1) x) ∙
-    ap (λ n. head_of (waiting cells line.first n)) whole in
-    (rw some here, here)
-
--- the part that is handed on
-pub part_is : {X : Type 0} (cells : List X) (line : Line) (begin : ℕ) → begin ≡ begin_of (length cells) line →
-    take (length cells - begin) (drop begin cells) ≡ from_first cells line
-part_is cells line begin is =
-    elim (cases_Bool (some_wait (length cells) line)) [
-      | inl some ↦ rw (is, some) (take_rest cells line.first)
-      | inr none ↦ rw (is, none) (take_rest cells (length cells) ∙ drop_all (length cells) cells (omega arith))
-    ]
-
-pub part_means : {X : Type 0} (cells part : List X) (line : Line) → part ≡ from_first cells line → Fits cells line →
-    waits cells line ≡ take line.count (part ++ cells)
-part_means cells part line is fits =
-    elim (cases_lt 0 line.count) [
-      | inl some ↦ let has = some-wait cells line fits some in rw (is, has) refl
-      | inr none ↦
-          let nobody : line.count ≡ 0 = omega arith in
-          ap (waiting cells line.first) nobody ∙ sym (ap (λ n. take n (part ++ cells)) nobody)
-    ]

@@ -1,23 +1,11 @@
 -- The ticks of sending that wait, after a push and a drop. Assumes nothing.
-use Rattle.std.proofs.Common.{◌≡◌, ℕ, suc, ◌+◌, ◌-◌, ◌^◌, ◌<◌, true, false, List, [], ◌∷◌, ◌++◌, length, Some, None, Option, sym, refl, ap, ◌∙◌, inl, inr, arith}
-use Rattle.std.proofs.lemmas.Bool.{cases_lt, cases_Bool, lt-ltb}
-use Rattle.std.specs.Option.{option_map}
+use Rattle.std.proofs.Common.{◌≡◌, suc, ◌+◌, ◌-◌, false, List, [], ◌∷◌, ◌++◌, length, None, Option, sym, refl, ap, ◌∙◌, inl, inr, arith}
+use Rattle.std.proofs.lemmas.Bool.{cases_lt, cases_Bool}
 use Rattle.lines.specs.declared.counted.Counted.{Counted}
 use Rattle.lines.specs.declared.line.Line.{Line}
 use Rattle.lines.specs.declared.packet.Packet.{Packet}
-use Rattle.lines.specs.Lines.{waiting, waits, Fits, head_of, tail_of, some_wait, pushed_line, pushed_cells, first_waiting}
-use Rattle.lines.specs.Ticks.{
-  ticks_of,
-  Counts,
-  counting,
-  countable,
-  counted_push,
-  counted_cells,
-  first_ticks,
-  counted_drop,
-  PushCounts,
-  DropCounts,
-}
+use Rattle.lines.specs.Lines.{waiting, waits, Fits, head_of, tail_of, some_wait, first_waiting}
+use Rattle.lines.specs.Ticks.{ticks_of, Counts, countable, counted_push, counted_cells, first_ticks, counted_drop, PushCounts, DropCounts}
 use Rattle.lines.proofs.Rounds.{first-waits}
 use Rattle.lines.proofs.Meanings.{room, no_room, some-wait, none-wait, some_fits, longer_means, shorter_means}
 
@@ -63,19 +51,6 @@ drop_counts cells counted r answer fits counts =
       | inr none ↦ let has = none-wait cells counted.line fits none in rw (answer, has) (omega arith)
     ]
 
--- what the two steps of a push give
-module _ (counted : Counted) (packet : Packet) (fits : counted.ticks + packet.length < 2 ^ 64) where
-  can : countable counted packet ≡ true
-  can = lt-ltb (counted.ticks + packet.length) (2 ^ 64) fits
-
-  pub push_value : (cells ticks : ℕ) (line : Line) → ticks ≡ counted.ticks + packet.length → Some line ≡ pushed_line cells counted.line →
-      Some (counting ticks line) ≡ counted_push cells counted packet
-  push_value cells ticks line sum pushed =
-      rw (sum, can) (ap (option_map (counting (counted.ticks + packet.length))) pushed)
-
-  pub push_cells : (cells after : List Packet) → after ≡ pushed_cells cells counted.line packet → after ≡ counted_cells cells counted packet
-  push_cells cells after written = rw can written
-
 -- where there is no first, nothing waits
 none_first : (cells : List Packet) (line : Line) → None ≡ first_waiting cells line → some_wait (length cells) line ≡ false
 none_first cells line nobody =
@@ -86,8 +61,7 @@ none_first cells line nobody =
           let somebody = first-waits cells line.first known.0.0 (line.count - 1) (record { flow = 0; length = 0; edge = 0 }) in
           let here = ap (λ n. head_of (waiting cells line.first n)) whole in
           let gone : None ≡ head_of (waits cells line) = rw some at nobody in
-          let never : ◌≡◌ {A = ℕ} 0 1 = cc in
-          absurd (omega arith)
+          cc
       | inr none ↦ none
     ]
 

@@ -1,5 +1,5 @@
 // A packet that waits: its flow, its length in ticks of sending, and the tick at which it passed the edge of the net.
-#[derive(Clone, Copy)]
+#[derive(Clone, Copy, Debug, Default, PartialEq, Eq)]
 pub struct Packet {
     pub flow: u16,
     pub length: u8,

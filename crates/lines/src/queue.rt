@@ -25,17 +25,23 @@ impl Line {
     pub fn empty() -> Line
         ensures { result ≡ empty_line }
     {
-        Line { first: 0, count: 0 }
+        Line::default()
     }
 
-    // One more at the end; None, and the cells stay as they are, where the line is full or does not fit them.
+    // One more at the end; None, and the cells stay as they are, where the line is full or does not fit them. The
+    // laws are those of lines.
     pub fn push<T: Copy>(self, cells: &mut [T], value: T) -> Option<Line>
         ensures line { result ≡ pushed_line (length cells.old) self }
         ensures cells { cells.new ≡ pushed_cells cells.old self value }
         ensures means { Fits cells.old self → PushMeans cells.old cells.new self value result }
         ensures laws { LineLaws T }
     {
-        self.put(cells, value)
+        let end = self.end(cells.len())?;
+        cells[end] = value;
+        Some(Line {
+            count: self.count + 1,
+            ..self
+        })
     }
 
     // The first that waits; None where nothing waits, or the line does not fit the cells.
@@ -43,7 +49,10 @@ impl Line {
         ensures value { result ≡ first_waiting cells.now self }
         ensures means { Fits cells.now self → result ≡ head_of (waits cells.now self) }
     {
-        self.head(cells)
+        if !self.some(cells.len()) {
+            return None;
+        }
+        Some(cells[self.first])
     }
 
     // The line without its first; None where nothing waits, or the line does not fit the cells.
@@ -51,7 +60,13 @@ impl Line {
         ensures line { result ≡ dropped_line (length cells.now) self }
         ensures means { Fits cells.now self → DropMeans cells.now self result }
     {
-        self.tail(cells)
+        if !self.some(cells.len()) {
+            return None;
+        }
+        Some(Line {
+            first: place(cells.len(), self.first, 1),
+            count: self.count - 1,
+        })
     }
 
     // The part of the cells that begins at the first; empty where nothing waits, or the line does not fit the cells. What
@@ -60,7 +75,8 @@ impl Line {
         ensures value { result.now ≡ from_first cells.now self }
         ensures means { Fits cells.now self → waits cells.now self ≡ take self.count (result.now ++ cells.now) }
     {
-        self.part(cells)
+        let begin = self.begin(cells.len());
+        &cells[begin..]
     }
 
     // Whether it fits so many cells, and something waits.
@@ -80,64 +96,11 @@ impl Line {
         Some(place(cells, self.first, self.count))
     }
 
-    // One more at the end. The laws are those of lines.
-    fn put<T: Copy>(self, cells: &mut [T], value: T) -> Option<Line>
-        ensures line { result ≡ pushed_line (length cells.old) self }
-        ensures cells { cells.new ≡ pushed_cells cells.old self value }
-        ensures means { Fits cells.old self → PushMeans cells.old cells.new self value result }
-        ensures laws { LineLaws T }
-    {
-        match self.end(cells.len()) {
-            None => None,
-            Some(end) => {
-                cells[end] = value;
-                Some(Line {
-                    first: self.first,
-                    count: self.count + 1,
-                })
-            }
-        }
-    }
-
-    // The first that waits.
-    fn head<T: Copy>(self, cells: &[T]) -> Option<T>
-        ensures value { result ≡ first_waiting cells.now self }
-        ensures means { Fits cells.now self → result ≡ head_of (waits cells.now self) }
-    {
-        if !self.some(cells.len()) {
-            return None;
-        }
-        Some(cells[self.first])
-    }
-
-    // The line without its first.
-    fn tail<T: Copy>(self, cells: &[T]) -> Option<Line>
-        ensures line { result ≡ dropped_line (length cells.now) self }
-        ensures means { Fits cells.now self → DropMeans cells.now self result }
-    {
-        if !self.some(cells.len()) {
-            return None;
-        }
-        Some(Line {
-            first: place(cells.len(), self.first, 1),
-            count: self.count - 1,
-        })
-    }
-
     // Where the part begins that is handed on: at the first, or at the end of the cells.
     fn begin(self, cells: usize) -> usize
         ensures { result ≡ begin_of cells self }
     {
         if self.some(cells) { self.first } else { cells }
-    }
-
-    // That part.
-    fn part<'a, T: Copy>(self, cells: &'a [T]) -> &'a [T]
-        ensures value { result.now ≡ from_first cells.now self }
-        ensures means { Fits cells.now self → waits cells.now self ≡ take self.count (result.now ++ cells.now) }
-    {
-        let begin = self.begin(cells.len());
-        &cells[begin..]
     }
 }
 

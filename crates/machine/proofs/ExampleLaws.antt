@@ -1,5 +1,5 @@
 -- A packet of two ticks leaves two ticks after it was taken. Assumes nothing.
-use Rattle.std.proofs.Common.{◌≡◌, ℕ, refl, arith}
+use Rattle.std.proofs.Common.{refl, arith}
 use Rattle.flows.specs.FlowFormat.{passes as on_road}
 use Rattle.queues.specs.Lines.{taken_from, left_by, sum_over}
 use Rattle.machine.specs.Runs.{begins, passes, takes, ticks}
@@ -14,7 +14,7 @@ leaves_at_two = (
       (passes two_ticks begins
       (record { fitting = record { crosses = refl; class = refl; some = omega arith; short = omega arith }; may = refl }))
       (record { free = refl; first = refl; until = omega arith }))
-      (λ none c. let z : ◌≡◌ {A = ℕ} 0 1 = cc in absurd (omega arith)),
+      (λ none c. cc),
   refl,
   refl,
 )

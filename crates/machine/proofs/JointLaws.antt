@@ -32,7 +32,7 @@ module _ {A B : Type 0} (f : A → B) where
 
   map-none : (xs : List A) → map f xs ≡ [] → xs ≡ []
   map-none [] e = refl
-  map-none (x ∷ xs) e = let z : ◌≡◌ {A = ℕ} 0 1 = cc in absurd (omega arith)
+  map-none (x ∷ xs) e = cc
 
 record First {A B : Type 0} (f : A → B) (xs : List A) (b : B) (bs : List B) : Type 0 where
   head : A
@@ -42,7 +42,7 @@ record First {A B : Type 0} (f : A → B) (xs : List A) (b : B) (bs : List B) : 
   others : map f rest ≡ bs
 
 map_first : {A B : Type 0} (f : A → B) (xs : List A) (b : B) (bs : List B) → map f xs ≡ b ∷ bs → First f xs b bs
-map_first f [] b bs e = let z : ◌≡◌ {A = ℕ} 0 1 = cc in absurd (omega arith)
+map_first f [] b bs e = cc
 map_first f (x ∷ xs) b bs e = record { head = x; rest = xs; is = refl; first = cc; others = cc }
 
 -- nothing has passed
@@ -162,11 +162,11 @@ pass_is_pass e p fs room classes s m packet shows may =
 -- what is being sent
 not_sending : (e : ℕ → Bool) (x : Option port.Sending) → None ≡ sent_of e x → x ≡ None
 not_sending e None is = refl
-not_sending e (Some x) is = let z : ◌≡◌ {A = ℕ} 0 1 = cc in absurd (omega arith)
+not_sending e (Some x) is = cc
 
 not_sent : (e : ℕ → Bool) (x : Option Sending) → sent e x ≡ None → x ≡ None
 not_sent e None is = refl
-not_sent e (Some x) is = let z : ◌≡◌ {A = ℕ} 0 1 = cc in absurd (omega arith)
+not_sent e (Some x) is = cc
 
 -- a queue that is empty here is empty there
 no_queue : (e : ℕ → Bool) (ls : List (List Packet)) (qs : List (List port.Packet)) (c : ℕ) → map (map (bare e)) ls ≡ map (map (bare_of e)) qs → get_or ls c [] ≡ [] → queue_of qs c ≡ []
@@ -230,8 +230,8 @@ take_is_take e p fs s m class packet shows may =
 -- the last bit leaves here when it leaves there
 still-sent : (e : ℕ → Bool) (t : ℕ) (x : Option Sending) (y : Option port.Sending) → sent e x ≡ sent_of e y → sent e (goes_on (leaves t x)) ≡ sent_of e (still t y)
 still-sent e t None None is = refl
-still-sent e t None (Some y) is = let z : ◌≡◌ {A = ℕ} 0 1 = cc in absurd (omega arith)
-still-sent e t (Some x) None is = let z : ◌≡◌ {A = ℕ} 0 1 = cc in absurd (omega arith)
+still-sent e t None (Some y) is = cc
+still-sent e t (Some x) None is = cc
 still-sent e t (Some x) (Some y) is =
     let same : ◌≡◌ {A = BareSending} (record { packet = bare e x.packet; until = x.until }) (record { packet = bare_of e y.packet; until = y.until }) = cc in
     let until : x.until ≡ y.until = ap (λ b. b.until) same in

@@ -1,5 +1,5 @@
 -- Opened gates and what the port takes are phases of the machine. Assumes nothing.
-use Rattle.std.proofs.Common.{◌≡◌, ℕ, ◌+◌, ◌^◌, ◌<◌, Bool, List, [], ◌∷◌, Some, None, Option, sym, refl, ap, ◌∙◌, subst, inl, inr, arith}
+use Rattle.std.proofs.Common.{◌≡◌, ℕ, ◌+◌, ◌^◌, ◌<◌, Bool, List, [], ◌∷◌, Some, None, Option, sym, refl, ap, ◌∙◌, subst, inl, inr}
 use Rattle.std.proofs.lemmas.Bool.{cases_Bool}
 use Rattle.flows.specs.Flow.{FlowModel}
 use Rattle.lines.specs.declared.packet.Packet.{Packet}
@@ -38,7 +38,7 @@ free-takes e p fs room classes s (taken class packet) goes free is below = (
   takes class packet goes (record { free = free; first = is; until = below class packet is }),
   λ none c.
       let some : begun s.tick (taken class packet) ≡ None = ap (begun s.tick) (sym is) ∙ none in
-      let z : ◌≡◌ {A = ℕ} 0 1 = cc in absurd (omega arith),
+      cc,
 )
 free-takes e p fs room classes s Nothing goes free is below =
     let empty = queue_laws.nothing s.queues is in
@@ -53,4 +53,4 @@ take_then_tick e p fs room classes s goes below = by s.sending refl
   where
     by : (x : Option Sending) → s.sending ≡ x → Goes e p fs room classes (after_taking s x) × MayTick (after_taking s x)
     by None free = free-takes e p fs room classes s (taken_from 0 s.queues) goes free refl below
-    by (Some x) busy = (goes, λ none c. let some : Some x ≡ None = sym busy ∙ none in let z : ◌≡◌ {A = ℕ} 0 1 = cc in absurd (omega arith))
+    by (Some x) busy = (goes, λ none c. let some : Some x ≡ None = sym busy ∙ none in cc)

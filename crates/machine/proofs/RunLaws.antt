@@ -37,8 +37,8 @@ goes_as_port e p fs room classes _ (ticks {s = s} goes may) =
 left_in_time : (e : ℕ → Bool) (p : ℕ) (fs : List FlowModel) (t : ℕ) (x : Option Sending) (y : Option port.Sending) (packet : Packet) →
     sent e x ≡ sent_of e y → Each (Punctual p fs) (leaving y) → e packet.flow ≡ true → leaves t x ≡ Gone packet →
     t ≤ packet.edge + promise p (flow_at fs packet.flow).class fs
-left_in_time e p fs t None y packet is punctual enters gone = let z : ◌≡◌ {A = ℕ} 0 1 = cc in absurd (omega arith)
-left_in_time e p fs t (Some x) None packet is punctual enters gone = let z : ◌≡◌ {A = ℕ} 0 1 = cc in absurd (omega arith)
+left_in_time e p fs t None y packet is punctual enters gone = cc
+left_in_time e p fs t (Some x) None packet is punctual enters gone = cc
 left_in_time e p fs t (Some x) (Some y) packet is punctual enters gone =
     elim (cases_Bool (eqb x.until t)) [
       | inl now ↦
@@ -57,7 +57,7 @@ left_in_time e p fs t (Some x) (Some y) packet is punctual enters gone =
           subst (λ w. t ≤ w.edge + promise p (flow_at fs w.flow).class fs) it (omega (arith, until, into, due, tick, punctual.0))
       | inr on ↦
           let here : Busy x ≡ Gone packet = rw on at gone in
-          let z : ◌≡◌ {A = ℕ} 0 1 = cc in absurd (omega arith)
+          cc
     ]
 
 pub leaves_in_time : LeavesInTime
@@ -70,8 +70,8 @@ leaves_in_time e p fs room classes s packet within goes enters gone =
 same_ticks : (e : ℕ → Bool) (line : List Packet) (queue : List port.Packet) → map (bare e) line ≡ map (bare_of e) queue → ticks_of line ≡ port_ticks queue
 unfolding ticks_of port_ticks
 same_ticks e [] [] is = refl
-same_ticks e [] (w ∷ ws) is = let z : ◌≡◌ {A = ℕ} 0 1 = cc in absurd (omega arith)
-same_ticks e (x ∷ xs) [] is = let z : ◌≡◌ {A = ℕ} 0 1 = cc in absurd (omega arith)
+same_ticks e [] (w ∷ ws) is = cc
+same_ticks e (x ∷ xs) [] is = cc
 same_ticks e (x ∷ xs) (w ∷ ws) is =
     let first : bare e x ≡ bare_of e w = cc in
     let others : map (bare e) xs ≡ map (bare_of e) ws = cc in

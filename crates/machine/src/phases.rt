@@ -16,21 +16,16 @@ pub fn leave(sending: Option<Sending>, tick: u64) -> Leaving
     ensures { result ≡ leaves tick sending }
 {
     match sending {
-        Some(sending) => {
-            if sending.until == tick {
-                Leaving::Gone {
-                    packet: sending.packet,
-                }
-            } else {
-                Leaving::Busy { sending }
-            }
-        }
+        Some(sending) if sending.until == tick => Leaving::Gone {
+            packet: sending.packet,
+        },
+        Some(sending) => Leaving::Busy { sending },
         None => Leaving::Idle,
     }
 }
 
 // A port that is not sending takes the first packet of the lowest class that has one, and sends it whole. One that is
-// sending goes on, and nothing changes.
+// sending goes on, and nothing changes. The laws are those of the machine.
 pub fn take(
     sending: Option<Sending>,
     queues: &mut Queues,
@@ -41,37 +36,24 @@ pub fn take(
     ensures busy { (s : Sending) → sending ≡ Some s → (result ≡ Some s) × (queues.new ≡ queues.old) × (memory.new ≡ memory.old) }
     ensures laws { MachineLaws }
 {
-    go_on(sending, queues, memory, tick)
-}
-
-// Sends on, or takes. The laws are those of the machine.
-fn go_on(
-    sending: Option<Sending>,
-    queues: &mut Queues,
-    memory: &mut [Cell],
-    tick: u64,
-) -> Option<Sending>
-    ensures free { sending ≡ None → (ls : List (List Packet)) → Holds queues.old memory.old ls → (result ≡ takes tick ls) × Holds queues.new memory.new (left_by ls) }
-    ensures busy { (s : Sending) → sending ≡ Some s → (result ≡ Some s) × (queues.new ≡ queues.old) × (memory.new ≡ memory.old) }
-    ensures laws { MachineLaws }
-{
-    match sending {
-        Some(sending) => Some(sending),
-        None => begin(queues, memory, tick),
+    // not by or_else: of what its closure writes too little is known to prove this
+    if sending.is_some() {
+        return sending;
     }
+    begin(queues, memory, tick)
 }
 
 // Takes, where nothing is being sent.
 fn begin(queues: &mut Queues, memory: &mut [Cell], tick: u64) -> Option<Sending>
     ensures { (ls : List (List Packet)) → Holds queues.old memory.old ls → (result ≡ takes tick ls) × Holds queues.new memory.new (left_by ls) }
 {
-    match queues.take(memory) {
-        Taken::Packet { class: _, packet } => Some(Sending {
-            packet,
-            until: last_bit(tick, packet.length),
-        }),
-        Taken::Nothing => None,
-    }
+    let Taken::Packet { class: _, packet } = queues.take(memory) else {
+        return None;
+    };
+    Some(Sending {
+        packet,
+        until: last_bit(tick, packet.length),
+    })
 }
 
 // The tick at which the last bit of a packet leaves that is taken at a tick. Past 64 bits it stays at the last tick.

@@ -8,20 +8,20 @@ ghost use Rattle.memory.specs.Growth.{GrowthLaws};
 ghost use Rattle.memory.specs.Needs.{ticks_within, class_need, class_needs, regulator_needs, whole_need, switch_needs};
 
 use flows::net::Net;
+use promises::demand::Demand;
 use promises::load::Load;
-use promises::loads::Loads;
-use promises::pairs::Pairs;
 
 const DEN: u128 = 1_000_000;
 
 // What may wait in a regulator: bursts, and what the rates bring within a window, rounded up once. The law says that
 // the needs are those of the flows, and that one flow more shortens none.
+#[tactic(auto, using(crate::proofs::NeedLaws::needs_kept, crate::proofs::GrowthLaws::growth_laws))]
 fn ticks_within(bursts: u32, rates: u32, window: u64) -> u128
     ensures law { NeedsKept × GrowthLaws }
     ensures value { result ≡ ticks_within bursts rates window }
     ensures small { result < 2 ^ 97 }
 {
-    (DEN * bursts as u128 + rates as u128 * window as u128 + 999_999) / DEN
+    (DEN * bursts as u128 + rates as u128 * window as u128).div_ceil(DEN)
 }
 
 // A regulator of one class between two ports. Most have no flow, and need nothing.
@@ -30,17 +30,16 @@ fn class_need(port: &Load, pair: &Load, class: u8) -> u128
     ensures value { result ≡ class_need (load_model port.now) (load_model pair.now) class }
     ensures small { result < 2 ^ 97 }
 {
-    let place = class as usize;
-    let bursts = pair.bursts[place];
-    let rates = pair.rates[place];
-    if bursts == 0 && rates == 0 {
+    let asked = pair.of_class(class);
+    if asked.bursts == 0 && asked.rates == 0 {
         return 0;
     }
     let window = port.promise(class).unwrap_or(0);
-    ticks_within(bursts, rates, window)
+    ticks_within(asked.bursts, asked.rates, window)
 }
 
-// The regulators of all classes between two ports.
+// The regulators of all classes between two ports. As below it is a loop: that the sum of a chain fits is not proved.
+#[tactic(auto, unfolding(crate::specs::Needs::class_needs))]
 fn pair_need(port: &Load, pair: &Load) -> u128
     ensures value { result ≡ class_needs (load_model port.now) (load_model pair.now) 8 }
     ensures small { result ≤ 8 * 2 ^ 97 }
@@ -53,50 +52,45 @@ fn pair_need(port: &Load, pair: &Load) -> u128
 }
 
 // All regulators before a port.
-fn regulators_need(loads: &Loads, pairs: &Pairs, q: u8) -> u128
-    ensures value { result ≡ regulator_needs (loads_model loads.now) (pairs_model pairs.now) q 64 }
+#[tactic(auto, unfolding(crate::specs::Needs::regulator_needs))]
+fn regulators_need(demand: &Demand, q: u8) -> u128
+    ensures value { result ≡ regulator_needs (loads_model demand.now.loads) (pairs_model demand.now.pairs) q 64 }
     ensures small { result ≤ 512 * 2 ^ 97 }
 {
     let mut need: u128 = 0;
     for p in 0..64u8 {
-        need += pair_need(&loads.at(p), &pairs.pair(p, q));
+        need += pair_need(&demand.loads.at(p), &demand.pairs.pair(p, q));
     }
     need
 }
 
 // A port: its queues and the regulators before it.
-fn port_need(loads: &Loads, pairs: &Pairs, q: u8) -> u128
-    ensures value { result ≡ whole_need (loads_model loads.now) (pairs_model pairs.now) q }
+fn port_need(demand: &Demand, q: u8) -> u128
+    ensures value { result ≡ whole_need (loads_model demand.now.loads) (pairs_model demand.now.pairs) q }
     ensures small { result ≤ 513 * 2 ^ 97 }
 {
-    loads.at(q).need() as u128 + regulators_need(loads, pairs, q)
+    demand.loads.at(q).need() as u128 + regulators_need(demand, q)
 }
 
 // A port, if it stands on this switch.
-fn need_on(net: &Net, loads: &Loads, pairs: &Pairs, switch: u8, q: u8) -> u128
-    ensures value { result ≡ (if (port_at (net_of net.now) q).switch == switch then whole_need (loads_model loads.now) (pairs_model pairs.now) q else 0) }
+fn need_on(net: &Net, demand: &Demand, switch: u8, q: u8) -> u128
+    ensures value { result ≡ (if (port_at (net_of net.now) q).switch == switch then whole_need (loads_model demand.now.loads) (pairs_model demand.now.pairs) q else 0) }
     ensures small { result ≤ 513 * 2 ^ 97 }
 {
     if net.port(q).switch == switch {
-        return port_need(loads, pairs, q);
+        return port_need(demand, q);
     }
     0
 }
 
-// A switch: all its ports.
-pub fn switch_need(net: &Net, loads: &Loads, pairs: &Pairs, switch: u8) -> u128
-    ensures { result ≡ switch_needs (net_of net.now) (loads_model loads.now) (pairs_model pairs.now) switch net.now.count }
-{
-    need_up_to(net, loads, pairs, switch, net.count)
-}
-
-// A switch: those of the first ports that stand on it.
-fn need_up_to(net: &Net, loads: &Loads, pairs: &Pairs, switch: u8, count: u8) -> u128
-    ensures { result ≡ switch_needs (net_of net.now) (loads_model loads.now) (pairs_model pairs.now) switch count }
+// A switch: all ports of the net that stand on it.
+#[tactic(auto, unfolding(crate::specs::Needs::switch_needs))]
+pub fn switch_need(net: &Net, demand: &Demand, switch: u8) -> u128
+    ensures { result ≡ switch_needs (net_of net.now) (loads_model demand.now.loads) (pairs_model demand.now.pairs) switch net.now.count }
 {
     let mut need: u128 = 0;
-    for q in 0..count {
-        need += need_on(net, loads, pairs, switch, q);
+    for q in 0..net.count {
+        need += need_on(net, demand, switch, q);
     }
     need
 }

@@ -1,14 +1,12 @@
 -- A flow's level at the next port against what its packets carry there from the first. Assumes nothing.
-use Rattle.std.proofs.Common.{◌≡◌, ℕ, zero, suc, ◌+◌, ◌-◌, ◌*◌, ◌≤◌, List, [], ◌∷◌, map, get_or, refl, mul-le-mul_left, mul-add, arith}
+use Rattle.std.proofs.Common.{◌≡◌, ℕ, ◌+◌, ◌-◌, ◌*◌, ◌≤◌, List, map, get_or, mul-le-mul_left, mul-add, arith}
+use Rattle.std.proofs.Math.ListN.{get_or-map}
 use Rattle.flows.specs.Flow.{FlowModel}
-use Rattle.port.specs.Port.{Level, full, deficit_at}
+use Rattle.port.specs.Port.{Level, no_flow, full, deficit_at}
 
 -- at the start every level is full
 pub full_at : (fs : List FlowModel) (k : ℕ) → get_or (map (λ _. full) fs) k full ≡ full
-full_at [] zero = refl
-full_at [] (suc k) = refl
-full_at (f ∷ fs) zero = refl
-full_at (f ∷ fs) (suc k) = full_at fs k
+full_at fs k = get_or-map (λ _. full) fs k no_flow
 
 -- A level q is behind a level l, so many ticks late: that much later it lacks no more.
 pub record Behind (f : FlowModel) (late : ℕ) (q l : Level) : Type 0 where

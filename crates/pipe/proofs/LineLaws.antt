@@ -90,10 +90,10 @@ front_push (v ∷ ws) w away front = ((λ none. All-push Away ws w (front.0 none
 
 pub front_comes : (before : List Packet) (t : ℕ) (w : Packet) (back : List Packet) → Each HasCome before →
     Front (before ++ w ∷ back) → Front (before ++ arrived t w ∷ back)
-front_comes [] t w back come front = ((λ none. let z : ◌≡◌ {A = ℕ} 0 1 = cc in absurd (omega arith)), front.1)
+front_comes [] t w back come front = ((λ none. cc), front.1)
 front_comes (v ∷ before) t w back come front =
     let is = come.0.1 in
-    ((λ none. let z : ◌≡◌ {A = ℕ} 0 1 = cc in absurd (omega arith)), front_comes before t w back come.1 front.1)
+    ((λ none. cc), front_comes before t w back come.1 front.1)
 
 -- The first, if it has come, came only now, or some packet that has passed took as long to come as the first by now.
 abbrev pub Due : ℕ → List Passed → List Packet → Type 0
@@ -101,7 +101,7 @@ Due now gs [] = Unit {0}
 Due now gs (w ∷ ws) = (t : ℕ) → w.came ≡ Some t → (now ≤ t) ⊎ OneOf (NoLonger now w.sent) gs
 
 pub due_push : (now : ℕ) (gs : List Passed) (ws : List Packet) (w : Packet) → Away w → Due now gs ws → Due now gs (ws ++ w ∷ [])
-due_push now gs [] w away due = λ t come. let z : ◌≡◌ {A = ℕ} 0 1 = cc in absurd (omega arith)
+due_push now gs [] w away due = λ t come. cc
 due_push now gs (v ∷ ws) w away due = due
 
 pub due-comes : (now : ℕ) (gs : List Passed) (front : List Packet) (w : Packet) (back : List Packet) →

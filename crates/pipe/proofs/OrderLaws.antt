@@ -1,5 +1,6 @@
 -- None overtakes another in a pipe, and a pipe is never stuck. Assumes nothing.
 use Rattle.std.proofs.Common.{◌≡◌, ℕ, ◌*◌, ◌<◌, ◌⊎◌, List, [], ◌∷◌, ◌++◌, map, Some, None, Option, sym, refl, ap, ◌∙◌, subst, inl, inr, append_assoc, arith}
+use Rattle.std.proofs.lemmas.List.{map-append}
 use Rattle.std.proofs.lemmas.Bool.{cases_lt}
 use Rattle.flows.specs.Flow.{FlowModel}
 use Rattle.promises.specs.Promises.{den}
@@ -7,15 +8,10 @@ use Rattle.port.specs.Port.{flow_at}
 use Rattle.pipe.specs.Pipe.{Packet, PipeModel, MayPass, MayTick, enters, comes, passes, ticks, begins, goes, arrived, lack_with, entrant, entry, through, line_of, enters_of}
 use Rattle.pipe.specs.Laws.{NobodyOvertakes, NeverStuck}
 
-entries_push : (ws : List Packet) (w : Packet) → map entry (ws ++ w ∷ []) ≡ map entry ws ++ entry w ∷ []
-entries_push [] w = refl
-entries_push (v ∷ ws) w = ap (λ es. entry v ∷ es) (entries_push ws w)
-
 -- that a packet has come does not change what it was
 entries_come : (front : List Packet) (t : ℕ) (w : Packet) (back : List Packet) →
     map entry (front ++ arrived t w ∷ back) ≡ map entry (front ++ w ∷ back)
-entries_come [] t w back = refl
-entries_come (v ∷ front) t w back = ap (λ es. entry v ∷ es) (entries_come front t w back)
+entries_come front t w back = map-append entry front (arrived t w ∷ back) ∙ sym (map-append entry front (w ∷ back))
 
 pub nobody_overtakes : NobodyOvertakes
 unfolding through enters_of
@@ -23,7 +19,7 @@ nobody_overtakes fs s begins = refl
 nobody_overtakes fs s (goes {s = r} run (enters k len may after)) =
     let w : Packet = entrant fs r k len in
     ap (λ x. line_of x) after
-    ∙ ap (λ es. through r.passed ++ es) (entries_push r.pipe w)
+    ∙ ap (λ es. through r.passed ++ es) (map-append entry r.pipe (w ∷ []))
     ∙ sym (append_assoc (through r.passed) (map entry r.pipe) (entry w ∷ []))
     ∙ ap (λ es. es ++ entry w ∷ []) (nobody_overtakes fs r run)
 nobody_overtakes fs s (goes {s = r} run (comes front w back may after)) =
@@ -40,7 +36,7 @@ nobody_overtakes fs s (goes {s = r} run (ticks may after)) = ap (λ x. line_of x
 module _ (fs : List FlowModel) (s : PipeModel) where
   -- a tick may end where the pipe is empty, its first has not come, or its first may not pass
   none-ticks : s.pipe ≡ [] → MayTick fs s
-  none-ticks is = λ w rest t may. let first = may.first in let z : ◌≡◌ {A = ℕ} 0 1 = cc in absurd (omega arith)
+  none-ticks is = λ w rest t may. let first = may.first in cc
 
   pub away-ticks : (v : Packet) (vs : List Packet) → s.pipe ≡ v ∷ vs → v.came ≡ None → MayTick fs s
   away-ticks v vs is away =
@@ -49,8 +45,7 @@ module _ (fs : List FlowModel) (s : PipeModel) where
       let come = may.come in
       let same : v ≡ w = cc in
       let too : w.came ≡ None = subst (λ x. x.came ≡ None) same away in
-      let z : ◌≡◌ {A = ℕ} 0 1 = cc in
-      absurd (omega arith)
+      cc
 
   pub held-ticks : (v : Packet) (vs : List Packet) → s.pipe ≡ v ∷ vs →
       den * (flow_at fs v.flow).burst < lack_with fs s.next s.now v.flow v.len → MayTick fs s

@@ -65,7 +65,7 @@ waits_in bound now (w ∷ ws) gs high rising front due came gone = (first, rest 
 
     rest : (o : Option ℕ) → w.came ≡ o → Each (HasTime bound now) ws
     rest None away =
-        All-weaker Away (HasTime bound now) (λ v none t come. let z : ◌≡◌ {A = ℕ} 0 1 = cc in absurd (omega arith)) ws (front.0 away)
+        All-weaker Away (HasTime bound now) (λ v none t come. cc) ws (front.0 away)
     rest (Some t) come = after_first bound now w.sent ws high (first t come) rising.1
 
 pub within_bound : WithinBound

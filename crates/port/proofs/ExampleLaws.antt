@@ -8,7 +8,7 @@ use Rattle.port.specs.Examples.{PromiseMet}
 
 -- a port that is sending may tick on
 sends : (s : PortModel) (x : Sending) → s.sending ≡ Some x → Run 0 two_classes s → Run 0 two_classes (ticked s)
-sends s x is run = goes run (ticks (λ free. let z : ◌≡◌ {A = ℕ} 0 1 = cc in absurd (omega arith)) refl)
+sends s x is run = goes run (ticks (λ free. cc) refl)
 
 -- the packet of class 1 passes and is taken, and that of class 0 passes
 abbrev behind : PortModel

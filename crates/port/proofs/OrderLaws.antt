@@ -1,13 +1,10 @@
 -- Within a class packets leave in the order in which they passed, and a port is never stuck. Assumes nothing.
 use Rattle.std.proofs.Common.{◌≡◌, ℕ, zero, suc, ◌<◌, Bool, true, false, cond, eqb, ◌⊎◌, List, [], ◌∷◌, ◌++◌, length, set, Some, None, Option, sym, refl, ap, ◌∙◌, ap₂, inl, inr, append_assoc, arith, get_or-set_other, get_or-set_same}
+use Rattle.std.proofs.lemmas.List.{append-nil}
 use Rattle.std.proofs.lemmas.Bool.{cases_eq, eq-eqb, ne_eqb}
 use Rattle.flows.specs.Flow.{FlowModel}
 use Rattle.port.specs.Port.{Packet, Sending, Gone, MayTake, MayTick, queue_of, still, left, leaving, flow_at, of_class, gone_of}
 use Rattle.port.specs.Laws.{NeverStuck}
-
-append-none : (xs : List Packet) → xs ++ [] ≡ xs
-append-none [] = refl
-append-none (x ∷ xs) = ap (λ ys. x ∷ ys) (append-none xs)
 
 of_its : (fs : List FlowModel) (c : ℕ) (w : Packet) → (flow_at fs w.flow).class ≡ c → of_class fs c w ≡ w ∷ []
 of_its fs c w is = ap (λ b. cond b (w ∷ []) []) (eq-eqb (flow_at fs w.flow).class c is)
@@ -58,7 +55,7 @@ module _ (fs : List FlowModel) (c : ℕ) (qs : List (List Packet)) (gs : List Go
                 ∙ sym (ap₂ (λ x y. x ++ y) (ap (λ k. queue_of qs k) is) (of_its fs c w (class ∙ sym is)))
             | inr other ↦
                 get_or-set_other qs d c (queue_of qs d ++ w ∷ []) [] other
-                ∙ sym (ap (λ x. queue_of qs c ++ x) (of_other fs c w (λ e. other (sym e ∙ class))) ∙ append-none (queue_of qs c))
+                ∙ sym (ap (λ x. queue_of qs c ++ x) (of_other fs c w (λ e. other (sym e ∙ class))) ∙ append-nil (queue_of qs c))
           ]
 
 -- the lowest class that has a packet
@@ -85,7 +82,7 @@ pub never_stuck : NeverStuck
 never_stuck s = by s.sending refl
   where
     by : (o : Option Sending) → s.sending ≡ o → MayTick s ⊎ ((c : ℕ) × (w : Packet) × (rest : List Packet) × MayTake s c w rest)
-    by (Some x) is = inl (λ free. let z : ◌≡◌ {A = ℕ} 0 1 = cc in absurd (omega arith))
+    by (Some x) is = inl (λ free. cc)
     by None is =
         elim (lowest s.queues) [
           | inl none ↦ inl (λ free. none)

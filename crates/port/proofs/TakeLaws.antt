@@ -32,7 +32,7 @@ in_time free ahead now into x some part served =
 
 -- a queue that has a packet is one of the eight
 pub held : (c : ℕ) (w : Packet) (rest : List Packet) (qs : List (List Packet)) → queue_of qs c ≡ w ∷ rest → c < length qs
-held c w rest [] first = let z : ◌≡◌ {A = ℕ} 0 1 = cc in absurd (omega arith)
+held c w rest [] first = cc
 held zero w rest (q ∷ qs) first = omega arith
 held (suc c) w rest (q ∷ qs) first = let more = held c w rest qs first in omega arith
 

@@ -16,10 +16,3 @@ pub struct Part<'a> {
     pub text: String,
     pub rest: Option<Printout<'a>>,
 }
-
-// Some whole lines, and whether they are the last.
-#[derive(Drop)]
-pub(crate) struct Lines {
-    pub text: String,
-    pub is_last: bool,
-}

@@ -5,15 +5,7 @@ use records::stage::Program;
 use std::io::{BufWriter, Read, Write};
 
 pub fn run(rt: &HostRuntime, program: Program) -> anyhow::Result<()> {
-    read_and_print(rt, program).context(name_of(program))
-}
-
-fn name_of(program: Program) -> &'static str {
-    match program {
-        Program::Admit => "admit",
-        Program::Ports => "ports",
-        Program::Evening => "evening",
-    }
+    read_and_print(rt, program).context(program)
 }
 
 fn read_and_print(rt: &HostRuntime, program: Program) -> anyhow::Result<()> {

@@ -28,7 +28,7 @@ fn take_flows(
 {
     while let Some(piece) = records.next() {
         session.take(heap, piece)?;
-        if let Stage::Running = session.stage {
+        if session.stage == Stage::Running {
             return Ok(session);
         }
     }

@@ -1,5 +1,5 @@
 -- Sums over at most 256 flows fit 32 bits. Assumes nothing.
-use Rattle.std.proofs.Common.{◌≡◌, ℕ, zero, suc, ◌+◌, ◌*◌, ◌<◌, ◌≤◌, Bool, true, false, cond, ltb, List, [], ◌∷◌, length, get_or, set, replicate, Some, sym, refl, ap, ◌∙◌, subst, arith}
+use Rattle.std.proofs.Common.{◌≡◌, ℕ, zero, suc, ◌+◌, ◌*◌, ◌<◌, ◌≤◌, Bool, true, false, cond, ltb, List, [], ◌∷◌, length, get_or, set, Some, sym, refl, ap, ◌∙◌, subst, arith}
 use Rattle.std.specs.List.{AllByRecursion as Each}
 use Rattle.std.proofs.ByRecursion.{All-weaker}
 use Rattle.std.proofs.lemmas.List.{get_or-set_other}
@@ -7,6 +7,7 @@ use Rattle.std.proofs.lemmas.Bool.{and_from, lt-ltb}
 use Rattle.flows.specs.Flow.{FlowModel, Once}
 use Rattle.promises.specs.Promises.{den, over, goes}
 use Rattle.promises.specs.Loads.{LoadModel, no_load, load_with, load_of, load_fits, loads_with, pair_of, pair_at, put_pair, pairs_with}
+use Rattle.promises.proofs.SumLaws.{zeros}
 use Rattle.promises.specs.Laws.{Bounded, SumsFit, PairsFit}
 
 -- place c of a table, after v was added at place k
@@ -23,12 +24,7 @@ pub record Within (n : ℕ) (t : LoadModel) : Type 0 where
   pub rates : (c : ℕ) → get_or t.rates c 0 ≤ den * n
 
 within_none : Within 0 no_load
-within_none = record { bursts = λ c. zeros 8 c; rates = λ c. zeros 8 c }
-  where
-    zeros : (n c : ℕ) → get_or (replicate n 0) c 0 ≤ 0
-    zeros zero c = omega arith
-    zeros (suc n) zero = omega arith
-    zeros (suc n) (suc c) = zeros n c
+within_none = record { bursts = λ c. omega (arith, zeros 8 c); rates = λ c. omega (arith, zeros 8 c) }
 
 within_more : (n m : ℕ) (t : LoadModel) → n ≤ m → Within n t → Within m t
 within_more n m t less within =

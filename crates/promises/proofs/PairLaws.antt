@@ -1,6 +1,8 @@
 -- A flow more along a road, from each port to the next. Assumes nothing.
-use Rattle.std.proofs.Common.{◌≡◌, ℕ, ◌+◌, ◌-◌, ◌<◌, ◌≤◌, Bool, true, false, cond, ◌&&◌, ◌||◌, eqb, ◌⊎◌, List, [], ◌∷◌, ◌++◌, length, get_or, drop, set, Some, None, Option, sym, refl, ap, ◌∙◌, subst, inl, inr, arith}
-use Rattle.std.proofs.lemmas.List.{drop_more, get_or-set_same, get_or-set_other, length-set}
+use Rattle.std.proofs.Common.{◌≡◌, ℕ, ◌<◌, ◌≤◌, Bool, true, false, cond, ◌&&◌, ◌||◌, eqb, ◌⊎◌, List, [], ◌∷◌, ◌++◌, length, get_or, take, drop, set, Some, None, Option, sym, refl, ap, ◌∙◌, subst, inl, inr, arith}
+use Rattle.std.proofs.Math.Bool.{or-false}
+use Rattle.std.proofs.lemmas.List.{get_or-set_same, get_or-set_other, length-set}
+use Rattle.std.proofs.lemmas.Option.{cond_some}
 use Rattle.flows.specs.Flow.{FlowModel}
 use Rattle.promises.specs.Loads.{LoadModel, no_load, load_with, load_fits, pair_of, pair_at, put_pair, pairs_with}
 use Rattle.promises.specs.Promises.{goes}
@@ -9,12 +11,12 @@ use Rattle.flows.specs.Flow.{Once}
 use Rattle.std.specs.List.{AllByRecursion as Each}
 use Rattle.std.proofs.lemmas.Bool.{or_from, and_left, ne_eqb, eqb-true, eqb-false, cases_eq, cond-false}
 
--- the port before i, the port at i, and the rest
-pub two_more : (road : List ℕ) (i : ℕ) → 1 ≤ i → i < length road → drop (i - 1) road ≡ get_or road (i - 1) 0 ∷ get_or road i 0 ∷ drop (i + 1) road
-two_more road i some more =
-    let back : i - 1 + 1 ≡ i = omega arith in
-    drop_more road (i - 1) 0 (omega arith) ∙ ap (λ n. get_or road (i - 1) 0 ∷ drop n road) back
-    ∙ ap (λ ps. get_or road (i - 1) 0 ∷ ps) (drop_more road i 0 more)
+-- the two ports of a window at the front of a road, and the rest
+pub window_front : (road hop : List ℕ) → 2 ≤ length road → hop ≡ take 2 road →
+    (road ≡ get_or hop 0 0 ∷ get_or hop 1 0 ∷ drop 2 road) × (drop 1 road ≡ get_or hop 1 0 ∷ drop 2 road)
+window_front [] hop long is = absurd (omega arith)
+window_front (p ∷ []) hop long is = absurd (omega arith)
+window_front (p ∷ q ∷ ps) hop long is = rw is (refl, refl)
 
 -- at most one port is left
 pub one_left : (f : FlowModel) (ps : List ℕ) (tables : List (List LoadModel)) → length ps ≤ 1 → pairs_with f ps tables ≡ Some tables
@@ -28,15 +30,12 @@ module _ (f : FlowModel) (p q : ℕ) (ps : List ℕ) (tables : List (List LoadMo
   pub pairs-more : (u : LoadModel) → t ≡ pair_at tables p q → Some u ≡ cond (load_fits t f) (Some (load_with t f)) None →
       pairs_with f (p ∷ q ∷ ps) tables ≡ whole → pairs_with f (q ∷ ps) (put_pair tables p q u) ≡ whole
   unfolding pairs_with
-  pairs-more u here got all = by (load_fits t f) refl got
-    where
-      by : (b : Bool) → load_fits t f ≡ b → Some u ≡ cond b (Some (load_with t f)) None → pairs_with f (q ∷ ps) (put_pair tables p q u) ≡ whole
-      by false fits e = let z : ◌≡◌ {A = ℕ} 0 1 = cc in absurd (omega arith)
-      by true fits e =
-          let is : u ≡ load_with (pair_at tables p q) f = cc (ap (λ x. load_with x f) here) in
-          let there : load_fits (pair_at tables p q) f ≡ true = sym (ap (λ x. load_fits x f) here) ∙ fits in
-          let step : pairs_with f (p ∷ q ∷ ps) tables ≡ pairs_with f (q ∷ ps) (put_pair tables p q (load_with (pair_at tables p q) f)) = rw (there, pairs_with) refl in
-          ap (λ x. pairs_with f (q ∷ ps) (put_pair tables p q x)) is ∙ sym step ∙ all
+  pairs-more u here got all =
+      let fit = cond_some (load_fits t f) (load_with t f) u (sym got) in
+      let is : u ≡ load_with (pair_at tables p q) f = sym fit.1 ∙ ap (λ x. load_with x f) here in
+      let there : load_fits (pair_at tables p q) f ≡ true = sym (ap (λ x. load_fits x f) here) ∙ fit.0 in
+      let step : pairs_with f (p ∷ q ∷ ps) tables ≡ pairs_with f (q ∷ ps) (put_pair tables p q (load_with (pair_at tables p q) f)) = rw (there, pairs_with) refl in
+      ap (λ x. pairs_with f (q ∷ ps) (put_pair tables p q x)) is ∙ sym step ∙ all
 
   pub pairs-full : t ≡ pair_at tables p q → None ≡ cond (load_fits t f) (Some (load_with t f)) None → pairs_with f (p ∷ q ∷ ps) tables ≡ whole → None ≡ whole
   unfolding pairs_with
@@ -48,10 +47,6 @@ module _ (f : FlowModel) (p q : ℕ) (ps : List ℕ) (tables : List (List LoadMo
           let there : load_fits (pair_at tables p q) f ≡ false = sym (ap (λ x. load_fits x f) here) ∙ fits in
           let step : pairs_with f (p ∷ q ∷ ps) tables ≡ None = rw (there, pairs_with) refl in
           sym step ∙ all
-
-or_nothing : (b : Bool) → (b || false) ≡ b
-or_nothing true = refl
-or_nothing false = refl
 
 -- no road goes on from a port that is not on it
 goes_apart : (p q : ℕ) (ps : List ℕ) → Each (λ r. r ≡ p → ⊥) ps → goes p q ps ≡ false
@@ -134,7 +129,7 @@ pairs-places f (a ∷ b ∷ ps) tables us squared once known e =
         subst P is
         (from_a got q (eqb b q) refl
         ∙ ap (λ x. cond x (load_with (pair_at tables a q) f) (pair_at tables a q))
-        (sym (ap (λ x. eqb b q || x) (goes_apart a q (b ∷ ps) once.0) ∙ or_nothing (eqb b q))))
+        (sym (ap (λ x. eqb b q || x) (goes_apart a q (b ∷ ps) once.0) ∙ or-false (eqb b q))))
     placed got p q false differs =
         got p q ∙ ap (λ x. cond (goes p q (b ∷ ps)) (load_with x f) x)
         (put_elsewhere tables a b (load_with (pair_at tables a b) f) squared known.0 known.1.0 p q (λ z. eqb-false a p differs (sym z)))

@@ -1,5 +1,6 @@
 -- Laws of promises. Assumes nothing.
 use Rattle.std.proofs.Common.{◌≡◌, ℕ, zero, suc, ◌+◌, ◌-◌, ◌*◌, ◌/◌, ◌<◌, ◌≤◌, max, List, [], ◌∷◌, ◌++◌, length, get_or, take, drop, replicate, Some, refl, ap, ◌∙◌, inl, inr, zero-add, div-mul-le_self, arith}
+use Rattle.std.proofs.Math.Nat.{zero-max}
 use Rattle.std.specs.List.{AllByRecursion as Each}
 use Rattle.std.proofs.lemmas.Nat.{mul-le, le-div}
 use Rattle.std.proofs.lemmas.Bool.{cases_lt, cases_Bool, lt-ltb, le-ltb, le-leb, lt-leb}
@@ -37,11 +38,8 @@ sums_kept p c fs low small room =
     let r : load_before (load_of p no_load fs) c ≡ before p c fs =
     kept-rates p c no_load fs sized_none low ∙ ap (λ n. n + before p c fs) (total-none c 8) ∙ zero-add (before p c fs) in
     let l : load_long (load_of p no_load fs) c ≡ long p c fs =
-    kept-longest p c no_load fs sized_none low ∙ ap (λ n. max n (long p c fs)) (largest-none (c + 1) 8) ∙ above_nothing (long p c fs) in
+    kept-longest p c no_load fs sized_none low ∙ ap (λ n. max n (long p c fs)) (largest-none (c + 1) 8) ∙ zero-max (long p c fs) in
     rw (r, l, b, lt-ltb (before p c fs) den room) refl
-  where
-    above_nothing : (n : ℕ) → max 0 n ≡ n
-    above_nothing n = omega arith
 
 -- a quotient grows with what is divided, and as the divisor shrinks
 pub quotient_grows : (x y k m : ℕ) → x ≤ y → m ≤ k → 0 < m → x / k ≤ y / m

@@ -1,11 +1,29 @@
 -- Sums kept in a table are the sums over the flows. Assumes nothing.
-use Rattle.std.proofs.Common.{◌≡◌, ℕ, zero, suc, ◌+◌, ◌<◌, max, Bool, true, false, cond, ◌&&◌, ltb, leb, List, [], ◌∷◌, length, get_or, take, drop, set, sym, refl, ap, ◌∙◌, inl, inr, add-zero, add_assoc, zero-add, arith, length-set}
+use Rattle.std.proofs.Common.{◌≡◌, ℕ, zero, suc, ◌+◌, ◌<◌, max, Bool, true, false, cond, ◌&&◌, ltb, leb, List, [], ◌∷◌, length, get_or, take, drop, set, map, fold, replicate, sum, sym, refl, ap, ◌∙◌, inl, inr, add-zero, add_assoc, zero-add, arith, length-set}
+use Rattle.std.proofs.Math.Nat.{zero-max}
 use Rattle.std.specs.List.{AllByRecursion as Each}
+use Rattle.std.proofs.lemmas.List.Recursion.{is_sum_by}
 use Rattle.std.proofs.lemmas.Bool.{cases_lt, lt-ltb, le-ltb, le-leb, lt-leb}
 use Rattle.flows.specs.Flow.{FlowModel}
 use Rattle.promises.specs.Promises.{over, bursts, before, long}
 use Rattle.promises.specs.Loads.{LoadModel, no_load, load_with, load_of, total, largest}
 use Rattle.promises.specs.Laws.{Classed}
+
+pub total_is_sum : (xs : List ℕ) → total xs ≡ sum xs
+unfolding total
+total_is_sum = is_sum_by total (λ x. x) refl (λ _ _. refl)
+
+-- nothing is asked at any place of an empty table
+pub zeros : (n c : ℕ) → ◌≡◌ {A = ℕ} (get_or (replicate n 0) c 0) 0
+zeros zero c = refl
+zeros (suc n) zero = refl
+zeros (suc n) (suc c) = zeros n c
+
+-- the largest of what h gives, found from the front
+pub largest_from : {X : Type 0} (h : X → ℕ) (a : ℕ) (xs : List X) → fold (λ m x. max m (h x)) a xs ≡ max a (largest (map h xs))
+unfolding largest
+largest_from h a [] = omega arith
+largest_from h a (x ∷ xs) = omega (arith, largest_from h (max a (h x)) xs)
 
 -- v where b holds, else nothing
 abbrev pub given : Bool → ℕ → ℕ
@@ -127,7 +145,4 @@ kept-longest p c t (f ∷ fs) sized low = by (over p f) (λ u known. kept-longes
         ∙ ap (λ n. max n (long p c fs)) (largest-set t.longest (c + 1) f.class f.longest (omega (arith, sized.longest, low.0)))
         ∙ three M (given (leb (c + 1) f.class) f.longest) (long p c fs)
         ∙ ap (λ b. max M (max (given b f.longest) (long p c fs))) (ltb_above c f.class)
-    by false more = more t sized ∙ ap (λ n. max M n) (nothing_above (long p c fs))
-      where
-        nothing_above : (n : ℕ) → n ≡ max 0 n
-        nothing_above n = omega arith
+    by false more = more t sized ∙ ap (λ n. max M n) (sym (zero-max (long p c fs)))

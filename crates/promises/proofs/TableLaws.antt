@@ -8,23 +8,25 @@ use Rattle.flows.specs.Flow.{Once}
 use Rattle.flows.specs.FlowFormat.{passes}
 use Rattle.std.specs.List.{AllByRecursion as Each}
 use Rattle.std.proofs.lemmas.List.{get_or-set_same, get_or-set_other, length-set}
+use Rattle.std.proofs.lemmas.Option.{cond_some, gets, slice_get-map}
+use Rattle.std.proofs.lemmas.Grind.{common_steps}
 use Rattle.std.proofs.ByRecursion.{All-weaker}
 use Rattle.std.proofs.lemmas.Bool.{or_from, ne_eqb, eqb-true, eqb-false, cases_Bool, cond-false}
+
+-- that of a port in a table, seen through a model
+pub ruleset of_port = (common_steps, gets, slice_get-map)
 
 module _ (f : FlowModel) (p : ℕ) (ps : List ℕ) (ts : List LoadModel) (t : LoadModel) (whole : Option (List LoadModel)) where
   -- t is what is asked of the port so far
   pub along_more : (u : LoadModel) → t ≡ get_or ts p no_load → Some u ≡ cond (load_fits t f) (Some (load_with t f)) None →
       loads_with f (p ∷ ps) ts ≡ whole → loads_with f ps (set ts p u) ≡ whole
   unfolding loads_with
-  along_more u here got all = by (load_fits t f) refl got
-    where
-      by : (b : Bool) → load_fits t f ≡ b → Some u ≡ cond b (Some (load_with t f)) None → loads_with f ps (set ts p u) ≡ whole
-      by false fits e = let z : ◌≡◌ {A = ℕ} 0 1 = cc in absurd (omega arith)
-      by true fits e =
-          let is : u ≡ load_with (get_or ts p no_load) f = cc (ap (λ x. load_with x f) here) in
-          let fits-there : load_fits (get_or ts p no_load) f ≡ true = sym (ap (λ x. load_fits x f) here) ∙ fits in
-          let step : loads_with f (p ∷ ps) ts ≡ loads_with f ps (set ts p (load_with (get_or ts p no_load) f)) = rw (fits-there, loads_with) refl in
-          ap (λ x. loads_with f ps (set ts p x)) is ∙ sym step ∙ all
+  along_more u here got all =
+      let fit = cond_some (load_fits t f) (load_with t f) u (sym got) in
+      let is : u ≡ load_with (get_or ts p no_load) f = sym fit.1 ∙ ap (λ x. load_with x f) here in
+      let there : load_fits (get_or ts p no_load) f ≡ true = sym (ap (λ x. load_fits x f) here) ∙ fit.0 in
+      let step : loads_with f (p ∷ ps) ts ≡ loads_with f ps (set ts p (load_with (get_or ts p no_load) f)) = rw (there, loads_with) refl in
+      ap (λ x. loads_with f ps (set ts p x)) is ∙ sym step ∙ all
 
   pub along_full : t ≡ get_or ts p no_load → None ≡ cond (load_fits t f) (Some (load_with t f)) None → loads_with f (p ∷ ps) ts ≡ whole → None ≡ whole
   unfolding loads_with

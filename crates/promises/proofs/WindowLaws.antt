@@ -1,5 +1,5 @@
 -- What may come into a regulator, from sums that are kept. Assumes nothing.
-use Rattle.std.proofs.Common.{◌≡◌, ℕ, zero, suc, ◌+◌, ◌*◌, ◌<◌, ◌≤◌, Bool, true, false, cond, ◌&&◌, eqb, List, [], ◌∷◌, length, get_or, set, replicate, sym, refl, ap, ◌∙◌, ap₂, add-zero, add-mul, zero-add, arith}
+use Rattle.std.proofs.Common.{◌≡◌, ℕ, ◌+◌, ◌*◌, ◌<◌, ◌≤◌, Bool, true, false, cond, ◌&&◌, eqb, List, [], ◌∷◌, length, get_or, set, sym, refl, ap, ◌∙◌, ap₂, add-zero, add_assoc, add-mul, zero-add, arith}
 use Rattle.std.specs.List.{AllByRecursion as Each}
 use Rattle.std.proofs.lemmas.List.{get_or-set_same, get_or-set_other}
 use Rattle.std.proofs.lemmas.Bool.{eqb-true, eqb-false}
@@ -7,7 +7,7 @@ use Rattle.flows.specs.Flow.{FlowModel}
 use Rattle.promises.specs.Promises.{den, goes, windowed}
 use Rattle.promises.specs.Loads.{LoadModel, no_load, load_with, pair_of}
 use Rattle.promises.specs.Laws.{Classed, WindowKept}
-use Rattle.promises.proofs.SumLaws.{Sized, sized_with, sized_none}
+use Rattle.promises.proofs.SumLaws.{Sized, sized_with, sized_none, zeros}
 
 -- place c of a table, after v was added at place k
 place_set : (xs : List ℕ) (k c v : ℕ) (b : Bool) → eqb k c ≡ b → k < length xs → get_or (set xs k (get_or xs k 0 + v)) c 0 ≡ get_or xs c 0 + cond b v 0
@@ -50,15 +50,12 @@ window-from p q c w t (f ∷ fs) sized low =
     W : ℕ
     W = den * f.burst + f.rate * w
 
-    regroup : (a b d : ℕ) → a + b + d ≡ a + (b + d)
-    regroup a b d = omega arith
-
     by : (g b : Bool) → eqb f.class c ≡ b → ((u : LoadModel) → Sized u → allowed (pair_of p q u fs) c w ≡ allowed u c w + windowed p q c w fs) →
         allowed (pair_of p q (cond g (load_with t f) t) fs) c w ≡ allowed t c w + (cond (b && g) W 0 + windowed p q c w fs)
     by true true same more =
-        more (load_with t f) (sized_with t f sized) ∙ ap (λ n. n + windowed p q c w fs) (allowed_with t f c w true same sized low.0) ∙ regroup _ _ _
+        more (load_with t f) (sized_with t f sized) ∙ ap (λ n. n + windowed p q c w fs) (allowed_with t f c w true same sized low.0) ∙ add_assoc _ _ _
     by true false differs more =
-        more (load_with t f) (sized_with t f sized) ∙ ap (λ n. n + windowed p q c w fs) (allowed_with t f c w false differs sized low.0) ∙ regroup _ _ _
+        more (load_with t f) (sized_with t f sized) ∙ ap (λ n. n + windowed p q c w fs) (allowed_with t f c w false differs sized low.0) ∙ add_assoc _ _ _
     by false true same more = more t sized ∙ ap (λ n. allowed t c w + n) (sym (zero-add (windowed p q c w fs)))
     by false false differs more = more t sized ∙ ap (λ n. allowed t c w + n) (sym (zero-add (windowed p q c w fs)))
 
@@ -66,11 +63,6 @@ pub window-kept : WindowKept
 window-kept p q c w fs low small =
     sym (window-from p q c w no_load fs sized_none low ∙ ap (λ n. n + windowed p q c w fs) (nothing c w) ∙ zero-add (windowed p q c w fs))
   where
-    zeros : (n c : ℕ) → ◌≡◌ {A = ℕ} (get_or (replicate n 0) c 0) 0
-    zeros zero c = refl
-    zeros (suc n) zero = refl
-    zeros (suc n) (suc c) = zeros n c
-
     none : (w : ℕ) → den * 0 + 0 * w ≡ 0
     none w = omega arith
 

@@ -2,4 +2,5 @@ pub mod Promises
 pub mod Loads
 pub mod Examples
 pub mod Models
+pub mod Demands
 pub mod Laws

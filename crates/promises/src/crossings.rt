@@ -8,6 +8,7 @@ ghost use Rattle.promises.specs.Models.{load_model, pairs_model};
 use super::load::Load;
 use super::loads::Loads;
 use super::pairs::Pairs;
+use super::per_port::PerPort;
 use flows::flow::Flow;
 
 impl Pairs {
@@ -16,7 +17,7 @@ impl Pairs {
         ensures { pairs_model result ≡ replicate 64 (replicate 64 no_load) }
     {
         Pairs {
-            from: [Loads::none(); 64],
+            from: PerPort::all(Loads::none()),
         }
     }
 
@@ -24,51 +25,41 @@ impl Pairs {
     pub fn with(&self, flow: &Flow) -> Option<Pairs>
         ensures { option_map pairs_model result ≡ pairs_with (flow_of flow.now) (flow_of flow.now).road (pairs_model self.now) }
     {
-        let hops = flow.hops as usize;
-        self.along(flow, &flow.road[0..hops])
+        let mut pairs = *self;
+        pairs.add(flow)?;
+        Some(pairs)
+    }
+
+    // The same in place, since a copy is 393 KB; where it is None, some sums may have the flow already.
+    pub(crate) fn add(&mut self, flow: &Flow) -> Option<()>
+        ensures { option_map (λ _. pairs_model self.new) result ≡ pairs_with (flow_of flow.now) (flow_of flow.now).road (pairs_model self.old) }
+    {
+        for hop in flow.road().windows(2) {
+            let load = self.pair(hop[0], hop[1]).with(flow)?;
+            self.put(hop[0], hop[1], load);
+        }
+        Some(())
     }
 
     // What goes from one port directly to another.
+    #[tactic(auto, using(crate::proofs::TableLaws::of_port))]
     pub fn pair(&self, p: u8, q: u8) -> Load
         ensures { load_model result ≡ pair_at (pairs_model self.now) p q }
     {
-        self.pair_load(p, q)
-    }
-
-    fn pair_load(&self, p: u8, q: u8) -> Load
-        ensures { load_model result ≡ pair_at (pairs_model self.now) p q }
-    {
-        let place = p as usize;
-        if place < 64 {
-            return self.from[place].at(q);
+        match self.from.get(p) {
+            Some(loads) => loads.at(q),
+            None => Load::none(),
         }
-        Load::none()
     }
 
-    // Past the last port nothing changes.
+    // Past the last port nothing changes. By the index, as `put` of one table.
     fn put(&mut self, p: u8, q: u8, load: Load)
         ensures { pairs_model self.new ≡ put_pair (pairs_model self.old) p q (load_model load) }
     {
         let place = p as usize;
         if place < 64 {
-            let mut row = self.from[place];
-            row.put(q, load);
-            self.from[place] = row;
+            let rows = &mut self.from.each;
+            rows[place].ports.put(q, load);
         }
-    }
-
-    fn along(&self, flow: &Flow, road: &[u8]) -> Option<Pairs>
-        ensures { option_map pairs_model result ≡ pairs_with (flow_of flow.now) road.now (pairs_model self.now) }
-    {
-        let mut pairs = *self;
-        for i in 1..road.len() {
-            let p = road[i - 1];
-            let q = road[i];
-            let Some(load) = pairs.pair(p, q).with(flow) else {
-                return None;
-            };
-            pairs.put(p, q, load);
-        }
-        Some(pairs)
     }
 }

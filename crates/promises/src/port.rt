@@ -1,13 +1,12 @@
 // What a port promises, from the sums that are kept for it.
-ghost use Rattle.std.specs.Prelude.{◌≡◌, ◌+◌, ◌-◌, ◌*◌, ◌/◌, ◌<◌, ◌≤◌, ◌&&◌, length, IfSome, if◌then◌else◌, Some, None, nat_le};
+ghost use Rattle.std.specs.Prelude.{◌≡◌, ◌+◌, ◌-◌, ◌*◌, ◌/◌, ◌<◌, ◌≤◌, ◌&&◌, IfSome, if◌then◌else◌, Some, None, max, nat_le, nat_lt, slice_index};
 ghost use Rattle.std.specs.Option.{option_map};
 ghost use Rattle.flows.specs.Models.{flow_of};
 ghost use Rattle.promises.specs.Loads.{no_load, load_with, load_bursts, load_before, load_long, load_promise, load_fits, total};
 ghost use Rattle.promises.specs.Laws.{PromiseLaws};
 ghost use Rattle.promises.specs.Models.{load_model};
 
-use super::load::Load;
-use super::sums::{highest, sum};
+use super::load::{Asked, Load};
 use flows::flow::Flow;
 
 const DEN: u64 = 1_000_000;
@@ -17,11 +16,19 @@ impl Load {
     pub fn none() -> Self
         ensures { load_model result ≡ no_load }
     {
-        Load {
-            bursts: [0; 8],
-            rates: [0; 8],
-            longest: [0; 8],
-        }
+        Load::default()
+    }
+
+    // What is asked in one class; nothing for what is no class.
+    pub fn of_class(&self, class: u8) -> Asked
+        ensures bursts { result.bursts ≡ slice_index (load_model self.now).bursts class }
+        ensures rates { result.rates ≡ slice_index (load_model self.now).rates class }
+        ensures longest { result.longest ≡ slice_index (load_model self.now).longest class }
+    {
+        self.classes
+            .get(class as usize)
+            .copied()
+            .unwrap_or_default()
     }
 
     // Bursts of a class or lower.
@@ -30,18 +37,22 @@ impl Load {
         ensures value { result ≡ load_bursts (load_model self.now) class }
         ensures small { result ≤ 34359738360 }
     {
-        let count = class as usize + 1;
-        sum(&self.bursts[0..count])
+        self.classes[..=class as usize]
+            .iter()
+            .map(|asked| u64::from(asked.bursts))
+            .sum()
     }
 
-    // Rates of classes below this one.
+    // Rates of classes below this one. As a chain of its own: one for both sums would be told its field and its end.
     fn rates_below(&self, class: u8) -> u64
-        requires { class ≤ 7 }
+        requires { class ≤ 8 }
         ensures value { result ≡ load_before (load_model self.now) class }
         ensures small { result ≤ 34359738360 }
     {
-        let count = class as usize;
-        sum(&self.rates[0..count])
+        self.classes[..class as usize]
+            .iter()
+            .map(|asked| u64::from(asked.rates))
+            .sum()
     }
 
     // The longest packet of classes above this one.
@@ -50,24 +61,29 @@ impl Load {
         ensures { result ≡ load_long (load_model self.now) class }
     {
         let next = class as usize + 1;
-        highest(&self.longest[next..])
+        self.classes[next..]
+            .iter()
+            .map(|asked| asked.longest)
+            .max()
+            .unwrap_or(0)
     }
 
     // What the port promises a class of 0 to 7; None where all of the port is promised to classes below it, and for
     // what is no class.
+    #[tactic(auto, using(crate::proofs::PromiseLaws::promise_laws))]
     pub fn promise(&self, class: u8) -> Option<u64>
         ensures value { result ≡ (if nat_le class 7 then load_promise (load_model self.now) class else None) }
         ensures small { IfSome result (λ n. n ≤ 34359738615000000) }
         ensures laws { PromiseLaws }
     {
-        if !is_class(class) {
+        if class > 7 {
             return None;
         }
         let before = self.rates_below(class);
         if before >= DEN {
             return None;
         }
-        let ticks = self.longest_above(class) as u64 + self.bursts_up_to(class);
+        let ticks = u64::from(self.longest_above(class)) + self.bursts_up_to(class);
         Some(share(ticks, before))
     }
 
@@ -77,29 +93,35 @@ impl Load {
     {
         let class = flow.class as usize;
         let mut load = *self;
-        let bursts = load.bursts[class] as u64 + flow.burst as u64;
-        let rates = load.rates[class] as u64 + flow.rate as u64;
-        if bursts > 0xffff_ffff || rates > 0xffff_ffff {
-            return None;
-        }
-        load.bursts[class] = bursts as u32;
-        load.rates[class] = rates as u32;
-        load.longest[class] = load.longest[class].max(flow.longest);
+        load.classes[class] = load.classes[class].with(flow)?;
         Some(load)
     }
 
     // All rates at the port together.
     pub fn rates_together(&self) -> u64
-        ensures { result ≡ total self.now.rates }
+        ensures { result ≡ total (load_model self.now).rates }
     {
-        sum(&self.rates)
+        self.rates_below(8)
     }
 
     // What is set aside for the port: all bursts together.
     pub fn need(&self) -> u64
-        ensures { result ≡ total self.now.bursts }
+        ensures { result ≡ total (load_model self.now).bursts }
     {
-        sum(&self.bursts)
+        self.bursts_up_to(7)
+    }
+}
+
+impl Asked {
+    // One flow more; None where a sum would pass 32 bits.
+    fn with(&self, flow: &Flow) -> Option<Asked>
+        ensures { result ≡ (if nat_lt (self.now.bursts + flow.now.burst) 4294967296 && nat_lt (self.now.rates + flow.now.rate) 4294967296 then Some (record { bursts = self.now.bursts + flow.now.burst; rates = self.now.rates + flow.now.rate; longest = max self.now.longest flow.now.longest }) else None) }
+    {
+        Some(Asked {
+            bursts: self.bursts.checked_add(u32::from(flow.burst))?,
+            rates: self.rates.checked_add(flow.rate)?,
+            longest: self.longest.max(flow.longest),
+        })
     }
 }
 
@@ -110,12 +132,4 @@ fn share(ticks: u64, before: u64) -> u64
     ensures small { result ≤ 34359738615000000 }
 {
     ticks * DEN / (DEN - before)
-}
-
-// Whether this is a class, of which there are eight. The laws are those of promises.
-fn is_class(class: u8) -> bool
-    ensures value { result ≡ nat_le class 7 }
-    ensures laws { PromiseLaws }
-{
-    class <= 7
 }

@@ -1,5 +1,5 @@
 -- Queues with no packet, and what waits in queues. Assumes nothing.
-use Rattle.std.proofs.Common.{◌≡◌, ℕ, zero, suc, ◌+◌, ◌<◌, ◌≤◌, min, cond, ltb, ◌⊎◌, List, [], ◌∷◌, get_or, replicate, sym, refl, ap, ◌∙◌, subst, inl, inr, zero-add, add-one, arith}
+use Rattle.std.proofs.Common.{◌≡◌, ℕ, zero, suc, ◌+◌, ◌<◌, ◌≤◌, cond, ltb, ◌⊎◌, List, [], ◌∷◌, map, get_or, replicate, sym, refl, ap, ◌∙◌, subst, inl, inr, zero-add, add-one, arith}
 use Rattle.std.specs.List.{AllByRecursion as Each}
 use Rattle.std.proofs.lemmas.List.{get_or-replicate}
 use Rattle.std.proofs.lemmas.Bool.{cases_eq, cases_lt, lt-ltb, le-ltb}
@@ -7,8 +7,8 @@ use Rattle.lines.specs.declared.packet.Packet.{Packet}
 use Rattle.queues.specs.declared.cell.Cell.{Cell}
 use Rattle.queues.specs.declared.queues_of.Queues.{Queues}
 use Rattle.queues.specs.Lines.{ticks_of, sum_to, ticks_in}
-use Rattle.queues.specs.Held.{next_at, places, chain, last_of, occurs, size, Holds}
-use Rattle.queues.proofs.ChainLaws.{occurs_here, occurs_other, sum_same, sum_over_lem}
+use Rattle.queues.specs.Held.{packet_at, next_at, places, last_of, occurs, queue_of, places_of, free_places, size, Holds}
+use Rattle.queues.proofs.ChainLaws.{occurs_here, occurs_other, no_places, sum_same, sum_over_lem}
 use Rattle.queues.proofs.PutLaws.{ticks-few}
 
 -- places of which each is the one after the one before
@@ -45,45 +45,46 @@ module _ (cells : List Cell) (n : ℕ) (linked : (k : ℕ) → k < n → next_at
         | inr above ↦ outside 0 n (omega arith) (inr (omega arith)) ∙ sym (ap (λ b. cond b 1 0) (le-ltb x n above))
       ]
 
--- the queues that begin with n free cells
-abbrev pub unused : ℕ → Queues
-unused n = record { first = replicate 8 0; last = replicate 8 0; count = replicate 8 0; ticks = replicate 8 0; free = 0; free_count = n }
-
-pub unused_holds : (cells : List Cell) (n : ℕ) → n ≡ size cells → ((k : ℕ) → k < n → next_at cells k ≡ k + 1) → Holds (unused n) cells (replicate 8 [])
-unfolding places occurs sum_to last_of ticks_of
-unused_holds cells n is linked =
+-- queues in which nothing waits, and all cells are free
+pub unused_holds : (q : Queues) (cells : List Cell) → ((c : ℕ) → c < 8 → (queue_of q c).count ≡ 0) → ((c : ℕ) → c < 8 → (queue_of q c).ticks ≡ 0) →
+    q.free ≡ 0 → q.free_count ≡ size cells → ((k : ℕ) → k < q.free_count → next_at cells k ≡ k + 1) → Holds q cells (replicate 8 [])
+unfolding sum_to last_of ticks_of occurs
+unused_holds q cells counts ticks free is linked =
     record {
       eight = refl;
-      line = λ c h. none c h ∙ ap (λ k. chain cells (get_or (replicate 8 0) c 0) k) (sym (zeros c h));
-      counted = λ c h. zeros c h ∙ ap ticks_of (sym (none c h));
-      ends = λ c h. ap (λ k. last_of (get_or (replicate 8 0) c 0) (places cells (get_or (replicate 8 0) c 0) k)) (zeros c h);
+      line = λ c h. none c h ∙ sym (ap (map (packet_at cells)) (nowhere c h));
+      counted = λ c h. ticks c h ∙ ap ticks_of (sym (none c h));
+      ends = λ c h. ap (last_of (queue_of q c).last) (nowhere c h);
       short = λ c h. subst (Each (λ p. p.length ≤ 255)) (sym (none c h)) tt;
-      once = λ x. zero-add _ ∙ all_once cells n linked x ∙ ap (λ m. cond (ltb x m) 1 0) is;
-      whole = zero-add n ∙ is;
+      once = λ x.
+          ap (λ n. n + occurs x (free_places q cells)) (sum_same 8 (λ c. occurs x (places_of q cells c)) (λ c. 0) (λ c h. ap (occurs x) (nowhere c h)))
+          ∙ zero-add _
+          ∙ ap (λ i. occurs x (places cells i q.free_count)) free
+          ∙ all_once cells q.free_count linked x
+          ∙ ap (λ n. cond (ltb x n) 1 0) is;
+      whole = ap (λ n. n + q.free_count) (sum_same 8 (λ c. (queue_of q c).count) (λ c. 0) counts) ∙ zero-add _ ∙ is;
     }
   where
-    zeros : (c : ℕ) → c < 8 → ◌≡◌ {A = ℕ} (get_or (replicate 8 0) c 0) 0
-    zeros c h = get_or-replicate 8 c 0 0 h
+    nowhere : (c : ℕ) → c < 8 → places_of q cells c ≡ []
+    nowhere c h = no_places cells _ _ (counts c h)
 
     none : (c : ℕ) → c < 8 → ◌≡◌ {A = List Packet} (get_or (replicate 8 []) c []) []
     none c h = get_or-replicate 8 c [] [] h
 
 -- the counted ticks together
-pub ticks-together : (q : Queues) (cells : List Cell) (lines : List (List Packet)) → Holds q cells lines → sum_to 8 (λ c. get_or q.ticks c 0) ≡ ticks_in lines
+pub ticks-together : (q : Queues) (cells : List Cell) (lines : List (List Packet)) → Holds q cells lines → sum_to 8 (λ c. (queue_of q c).ticks) ≡ ticks_in lines
 ticks-together q cells lines held =
-    sum_same 8 (λ c. get_or q.ticks c 0) (λ c. ticks_of (get_or lines c [])) held.counted
+    sum_same 8 (λ c. (queue_of q c).ticks) (λ c. ticks_of (get_or lines c [])) held.counted
     ∙ ap (λ n. sum_to n (λ c. ticks_of (get_or lines c []))) (sym held.eight)
     ∙ sym (sum_over_lem ticks_of lines)
 
-pub ticks_fit_all : (q : Queues) (cells : List Cell) (lines : List (List Packet)) → Holds q cells lines → sum_to 8 (λ c. get_or q.ticks c 0) < 18446744073709551615
+pub ticks_fit_all : (q : Queues) (cells : List Cell) (lines : List (List Packet)) → Holds q cells lines → sum_to 8 (λ c. (queue_of q c).ticks) < 18446744073709551615
 unfolding sum_to
 ticks_fit_all q cells lines held =
     let few = ticks-few q cells lines held in
     omega (arith, few 0 (omega arith), few 1 (omega arith), few 2 (omega arith), few 3 (omega arith), few 4 (omega arith), few 5 (omega arith), few 6 (omega arith), few 7 (omega arith))
 
 -- one class more
-pub more-ticks : (f : ℕ → ℕ) (n s m : ℕ) → s ≡ min (sum_to n f) 18446744073709551615 → m ≡ min (s + f n) 18446744073709551615 → m ≡ min (sum_to (n + 1) f) 18446744073709551615
+pub sum_more : (f : ℕ → ℕ) (n : ℕ) → sum_to (n + 1) f ≡ sum_to n f + f n
 unfolding sum_to
-more-ticks f n s m so now =
-    let e : sum_to (n + 1) f ≡ sum_to n f + f n = rw add-one refl in
-    omega (arith, e)
+sum_more f n = rw add-one refl

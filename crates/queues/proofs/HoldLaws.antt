@@ -7,43 +7,36 @@ use Rattle.lines.specs.declared.packet.Packet.{Packet}
 use Rattle.queues.specs.declared.cell.Cell.{Cell}
 use Rattle.queues.specs.declared.queues_of.Queues.{Queues}
 use Rattle.queues.specs.Lines.{ticks_of, sum_to}
-use Rattle.queues.specs.Held.{packet_at, places, chain, last_of, occurs, places_of, free_places, size, Holds}
+use Rattle.queues.specs.Held.{packet_at, places, chain, last_of, occurs, queue_of, places_of, free_places, size, Holds}
 use Rattle.queues.proofs.ChainLaws.{sum_change, sum_one, sum_two}
-
--- what is kept of a class is the same
-pub record Same (q r : Queues) (d : ℕ) : Type 0 where
-  pub first : get_or r.first d 0 ≡ get_or q.first d 0
-  pub last : get_or r.last d 0 ≡ get_or q.last d 0
-  pub count : get_or r.count d 0 ≡ get_or q.count d 0
-  pub ticks : get_or r.ticks d 0 ≡ get_or q.ticks d 0
 
 -- only the queue of class c and the free cells change, and the cells go from the one to the other
 pub record Moved (q r : Queues) (cells after : List Cell) (c : ℕ) (now : List Packet) : Type 0 where
   pub size : length after ≡ length cells
-  pub same : (d : ℕ) → d < 8 → d ≢ c → Same q r d
-  pub kept : (d : ℕ) → d < 8 → d ≢ c → places after (get_or q.first d 0) (get_or q.count d 0) ≡ places_of q cells d
+  pub same : (d : ℕ) → d < 8 → d ≢ c → queue_of r d ≡ queue_of q d
+  pub kept : (d : ℕ) → d < 8 → d ≢ c → places after (queue_of q d).first ((queue_of q d).count) ≡ places_of q cells d
   pub packets : (d : ℕ) → d < 8 → d ≢ c → map (packet_at after) (places_of q cells d) ≡ map (packet_at cells) (places_of q cells d)
-  pub line : now ≡ chain after (get_or r.first c 0) (get_or r.count c 0)
-  pub counted : get_or r.ticks c 0 ≡ ticks_of now
-  pub ends : last_of (get_or r.last c 0) (places_of r after c) ≡ get_or r.last c 0
+  pub line : now ≡ chain after (queue_of r c).first (queue_of r c).count
+  pub counted : (queue_of r c).ticks ≡ ticks_of now
+  pub ends : last_of (queue_of r c).last (places_of r after c) ≡ (queue_of r c).last
   pub short : Each (λ p. p.length ≤ 255) now
   pub once : (x : ℕ) → occurs x (places_of q cells c) + occurs x (free_places q cells) ≡ occurs x (places_of r after c) + occurs x (free_places r after)
-  pub counts : get_or q.count c 0 + q.free_count ≡ get_or r.count c 0 + r.free_count
+  pub counts : (queue_of q c).count + q.free_count ≡ (queue_of r c).count + r.free_count
 
 module _ (q r : Queues) (cells after : List Cell) (lines : List (List Packet)) (c : ℕ) (now : List Packet) where
   pub moved_holds : c < 8 → Holds q cells lines → Moved q r cells after c now → Holds r after (set lines c now)
   moved_holds class held moved =
       record {
         eight = length-set lines c now ∙ held.eight;
-        line = λ d h. elim (cases_eq d c) [ inl is ↦ at_c (λ e l. l ≡ chain after (get_or r.first e 0) (get_or r.count e 0)) d is moved.line | inr not ↦ else_line d h not ];
-        counted = λ d h. elim (cases_eq d c) [ inl is ↦ at_c (λ e l. get_or r.ticks e 0 ≡ ticks_of l) d is moved.counted | inr not ↦ (moved.same d h not).ticks ∙ held.counted d h ∙ ap ticks_of (sym (other d not)) ];
-        ends = λ d h. elim (cases_eq d c) [ inl is ↦ at_c (λ e l. last_of (get_or r.last e 0) (places_of r after e) ≡ get_or r.last e 0) d is moved.ends | inr not ↦ else_ends d h not ];
+        line = λ d h. elim (cases_eq d c) [ inl is ↦ at_c (λ e l. l ≡ chain after (queue_of r e).first (queue_of r e).count) d is moved.line | inr not ↦ else_line d h not ];
+        counted = λ d h. elim (cases_eq d c) [ inl is ↦ at_c (λ e l. (queue_of r e).ticks ≡ ticks_of l) d is moved.counted | inr not ↦ ap (λ u. u.ticks) (moved.same d h not) ∙ held.counted d h ∙ ap ticks_of (sym (other d not)) ];
+        ends = λ d h. elim (cases_eq d c) [ inl is ↦ at_c (λ e l. last_of (queue_of r e).last (places_of r after e) ≡ (queue_of r e).last) d is moved.ends | inr not ↦ else_ends d h not ];
         short = λ d h. elim (cases_eq d c) [ inl is ↦ at_c (λ e l. Each (λ p. p.length ≤ 255) l) d is moved.short | inr not ↦ subst (Each (λ p. p.length ≤ 255)) (sym (other d not)) (held.short d h) ];
         once = λ x.
             sym (sum_change 8 (λ d. occurs x (places_of q cells d)) (λ d. occurs x (places_of r after d)) c _ _ class (λ d h not. ap (occurs x) (sym (placed d h not))) (moved.once x))
             ∙ held.once x
             ∙ ap (λ n. cond (ltb x (min n 4294967295)) 1 0) (sym moved.size);
-        whole = sym (sum_change 8 (λ d. get_or q.count d 0) (λ d. get_or r.count d 0) c _ _ class (λ d h not. sym (moved.same d h not).count) moved.counts)
+        whole = sym (sum_change 8 (λ d. (queue_of q d).count) (λ d. (queue_of r d).count) c _ _ class (λ d h not. sym (ap (λ u. u.count) (moved.same d h not))) moved.counts)
             ∙ held.whole ∙ ap (λ n. min n 4294967295) (sym moved.size);
       }
     where
@@ -57,15 +50,15 @@ module _ (q r : Queues) (cells after : List Cell) (lines : List (List Packet)) (
       at_c P d is p = subst (λ e. P e (get_or (set lines c now) e [])) (sym is) (subst (P c) (sym (get_or-set_same lines c now [] within)) p)
 
       placed : (d : ℕ) → d < 8 → d ≢ c → places_of r after d ≡ places_of q cells d
-      placed d h not = let s = moved.same d h not in ap (λ i. places after i (get_or r.count d 0)) s.first ∙ ap (places after (get_or q.first d 0)) s.count ∙ moved.kept d h not
+      placed d h not = ap (λ u. places after u.first u.count) (moved.same d h not) ∙ moved.kept d h not
 
-      else_line : (d : ℕ) → d < 8 → d ≢ c → get_or (set lines c now) d [] ≡ chain after (get_or r.first d 0) (get_or r.count d 0)
+      else_line : (d : ℕ) → d < 8 → d ≢ c → get_or (set lines c now) d [] ≡ chain after (queue_of r d).first (queue_of r d).count
       else_line d h not = other d not ∙ held.line d h ∙ sym (moved.packets d h not) ∙ ap (map (packet_at after)) (sym (placed d h not))
 
-      else_ends : (d : ℕ) → d < 8 → d ≢ c → last_of (get_or r.last d 0) (places_of r after d) ≡ get_or r.last d 0
+      else_ends : (d : ℕ) → d < 8 → d ≢ c → last_of (queue_of r d).last (places_of r after d) ≡ (queue_of r d).last
       else_ends d h not =
-          let s = (moved.same d h not).last in
-          ap (λ l. last_of l (places_of r after d)) s ∙ ap (last_of (get_or q.last d 0)) (placed d h not) ∙ held.ends d h ∙ sym s
+          let s = ap (λ u. u.last) (moved.same d h not) in
+          ap (λ l. last_of l (places_of r after d)) s ∙ ap (last_of (queue_of q d).last) (placed d h not) ∙ held.ends d h ∙ sym s
 
 -- a place of one of the queues or of the free cells is a cell, and stands nowhere else
 module _ (q : Queues) (cells : List Cell) (lines : List (List Packet)) (held : Holds q cells lines) (x : ℕ) where

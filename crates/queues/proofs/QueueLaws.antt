@@ -23,7 +23,7 @@ record Found (b : ℕ) (lines : List (List Packet)) (c : ℕ) (packet : Packet) 
 
 found : (b : ℕ) (lines : List (List Packet)) (c : ℕ) (packet : Packet) → taken_from b lines ≡ taken c packet → Found b lines c packet
 unfolding taken_from left_by
-found b [] c packet e = let z : ◌≡◌ {A = ℕ} 0 1 = cc in absurd (omega arith)
+found b [] c packet e = cc
 found b ([] ∷ lines) c packet e =
     let more = found (b + 1) lines c packet e in
     let first = more.first in
@@ -59,7 +59,7 @@ none_found b ([] ∷ lines) e = let more = none_found (b + 1) lines e in (ap (λ
     below : ((c : ℕ) → get_or lines c [] ≡ []) → (c : ℕ) → get_or ([] ∷ lines) c [] ≡ []
     below rest zero = refl
     below rest (suc c) = rest c
-none_found b ((x ∷ xs) ∷ lines) e = let z : ◌≡◌ {A = ℕ} 0 1 = cc in absurd (omega arith)
+none_found b ((x ∷ xs) ∷ lines) e = cc
 
 -- one line is replaced
 sum_set : (f : List Packet → ℕ) (lines : List (List Packet)) (c : ℕ) (new : List Packet) → c < length lines →

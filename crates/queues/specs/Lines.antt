@@ -1,5 +1,5 @@
 -- The queues of a port as lists of packets, one for each class. Assumes nothing.
-use Rattle.std.specs.Prelude.{◌≡◌, ℕ, zero, suc, ◌+◌, ◌<◌, ◌≤◌, List, [], ◌∷◌, ◌++◌, length, slice_index, slice_index_or, slice_set}
+use Rattle.std.specs.Prelude.{ℕ, zero, suc, ◌+◌, List, [], ◌∷◌, ◌++◌, length, slice_index_or, slice_set}
 use Rattle.lines.specs.declared.packet.Packet.{Packet}
 use Rattle.queues.specs.declared.queues_of.Taken.{Taken}
 use Rattle.queues.specs.declared.queues_of.Taken.TheVariants.{Packet as taken, Nothing}
@@ -41,9 +41,3 @@ ticks_in lines = sum_over ticks_of lines
 unfoldable pub sum_to : ℕ → (ℕ → ℕ) → ℕ
 sum_to zero f = 0
 sum_to (suc n) f = sum_to n f + f n
-
--- the lowest of eight classes of which some are counted; 8 where there is none
-pub record Lowest (counts : List ℕ) (class : ℕ) : Type 0 where
-  pub within : class ≤ 8
-  pub below : (k : ℕ) → k < class → slice_index counts k ≡ 0
-  pub found : class < 8 → 0 < slice_index counts class

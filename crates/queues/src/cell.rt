@@ -1,7 +1,7 @@
 use lines::packet::Packet;
 
-// A cell of the lent memory: a packet, and the place of the next cell of its queue.
-#[derive(Clone, Copy)]
+// A cell of the lent memory: a packet, and the place of the next cell of its queue. Links by place, since there is no heap.
+#[derive(Clone, Copy, Debug, PartialEq, Eq)]
 pub struct Cell {
     pub packet: Packet,
     pub next: u32,

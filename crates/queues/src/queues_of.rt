@@ -1,19 +1,25 @@
 use lines::packet::Packet;
 
-// The queues of a port: where each begins and ends in the lent memory, how many packets and ticks wait in each, and where
-// the free cells begin.
-#[derive(Clone, Copy)]
+// The queue of a class: where it begins and ends in the lent memory, and how many packets and ticks wait in it.
+#[derive(Clone, Copy, Debug, Default, PartialEq, Eq)]
+pub struct Queue {
+    pub first: u32,
+    pub last: u32,
+    pub count: u32,
+    pub ticks: u64,
+}
+
+// The queues of a port, one for each class, and where the free cells begin. The cells are lent to each call, and not held
+// here: the memory stays its owner's.
+#[derive(Clone, Copy, Debug, Default, PartialEq, Eq)]
 pub struct Queues {
-    pub first: [u32; 8],
-    pub last: [u32; 8],
-    pub count: [u32; 8],
-    pub ticks: [u64; 8],
+    pub classes: [Queue; 8],
     pub free: u32,
     pub free_count: u32,
 }
 
-// What a port takes: a packet with its class, or nothing.
-#[derive(Clone, Copy)]
+// What a port takes: a packet with its class, or nothing. An enum of its own, and no Option, is a rule of the project.
+#[derive(Clone, Copy, Debug, PartialEq, Eq)]
 pub enum Taken {
     Packet { class: u8, packet: Packet },
     Nothing,

@@ -1,11 +1,11 @@
 // Taking from the queues of a port.
-ghost use Rattle.std.specs.Prelude.{◌≡◌, List};
-ghost use Rattle.queues.specs.Lines.{Lowest, taken_from, left_by};
-ghost use Rattle.queues.specs.Held.{Holds};
+ghost use Rattle.std.specs.Prelude.{◌≡◌, ◌<◌, List, MatchOption};
+ghost use Rattle.queues.specs.Lines.{taken_from, left_by};
+ghost use Rattle.queues.specs.Held.{IsLowest, Lowest, Holds};
 ghost use Rattle.queues.specs.Laws.{QueueLaws};
 
 use super::cell::Cell;
-use super::queues_of::{Queues, Taken};
+use super::queues_of::{Queue, Queues, Taken};
 use lines::packet::Packet;
 
 impl Queues {
@@ -16,55 +16,60 @@ impl Queues {
         ensures nothing { result ≡ Taken.Nothing → (self.new ≡ self.old) × (cells.new ≡ cells.old) }
         ensures laws { QueueLaws }
     {
-        let class = self.lowest();
-        self.take_of(cells, class)
+        let Some(class) = self.lowest() else {
+            return Taken::Nothing;
+        };
+        match self.take_of(cells, class) {
+            Some(packet) => Taken::Packet {
+                class: class as u8,
+                packet,
+            },
+            None => Taken::Nothing,
+        }
     }
 
-    // The lowest class that has a packet; 8 where none has. The laws are those of queues.
-    fn lowest(&self) -> usize
-        ensures class { Lowest self.now.count result }
+    // The lowest class that has a packet. The laws are those of queues.
+    fn lowest(&self) -> Option<usize>
+        ensures class { Lowest self.now result }
         ensures laws { QueueLaws }
     {
-        let mut lowest = 8;
-        'found: for class in 0..8 {
-            if self.count[class] > 0 {
-                lowest = class;
+        let mut lowest = None;
+        // a rule of the project: the loop over the classes is left by its label
+        'found: for (class, queue) in self.classes.iter().enumerate() {
+            if queue.count > 0 {
+                lowest = Some(class);
                 break 'found;
             }
         }
         lowest
     }
 
-    // The first packet of a class that has one. The tests after the first hold only where cells and counts do not belong
-    // together.
-    fn take_of(&mut self, cells: &mut [Cell], class: usize) -> Taken
-        ensures first { Lowest self.old.count class → (lines : List (List Packet)) → Holds self.old cells.old lines → (result ≡ taken_from 0 lines) × Holds self.new cells.new (left_by lines) }
-        ensures nothing { result ≡ Taken.Nothing → (self.new ≡ self.old) × (cells.new ≡ cells.old) }
+    // The first packet of a class that has one. None only where there is none, or cells and counts do not belong together.
+    fn take_of(&mut self, cells: &mut [Cell], class: usize) -> Option<Packet>
+        ensures first { IsLowest self.old class → (lines : List (List Packet)) → Holds self.old cells.old lines → MatchOption result ⊥ (λ packet. (Taken.Packet class packet ≡ taken_from 0 lines) × Holds self.new cells.new (left_by lines)) }
+        ensures nothing { result ≡ None → (self.new ≡ self.old) × (cells.new ≡ cells.old) }
     {
-        if class >= 8 {
-            return Taken::Nothing;
+        if class >= self.classes.len() {
+            return None;
         }
-        let first = self.first[class];
-        let place = first as usize;
-        let count = self.count[class];
-        if place >= cells.len() || count == 0 || self.free_count == 0xffff_ffff {
-            return Taken::Nothing;
+        let queue = self.classes[class];
+        let place = queue.first as usize;
+        if place >= cells.len() {
+            return None;
         }
         let cell = cells[place];
-        let ticks = self.ticks[class];
-        let length = cell.packet.length as u64;
-        if ticks < length {
-            return Taken::Nothing;
-        }
+        let count = queue.count.checked_sub(1)?;
+        let ticks = queue.ticks.checked_sub(cell.packet.length as u64)?;
+        let free_count = self.free_count.checked_add(1)?;
         cells[place].next = self.free;
-        self.first[class] = cell.next;
-        self.count[class] = count - 1;
-        self.ticks[class] = ticks - length;
-        self.free = first;
-        self.free_count += 1;
-        Taken::Packet {
-            class: class as u8,
-            packet: cell.packet,
-        }
+        self.classes[class] = Queue {
+            first: cell.next,
+            count,
+            ticks,
+            ..queue
+        };
+        self.free = queue.first;
+        self.free_count = free_count;
+        Some(cell.packet)
     }
 }

@@ -12,15 +12,9 @@ impl Queues {
     pub fn waiting(&self) -> u64
         ensures { (cells : List Cell) (lines : List (List Packet)) → Holds self.now cells lines → result ≡ ticks_in lines }
     {
-        self.ticks_together()
-    }
-
-    fn ticks_together(&self) -> u64
-        ensures { (cells : List Cell) (lines : List (List Packet)) → Holds self.now cells lines → result ≡ ticks_in lines }
-    {
         let mut ticks: u64 = 0;
-        for class in 0..8 {
-            ticks = ticks.saturating_add(self.ticks[class]);
+        for queue in self.classes.iter() {
+            ticks = ticks.saturating_add(queue.ticks);
         }
         ticks
     }

@@ -1,12 +1,11 @@
 -- Numbers and their bytes are one another's inverse. Assumes nothing.
-use Rattle.std.proofs.Common.{◌≡◌, ℕ, zero, suc, ◌+◌, ◌*◌, ◌/◌, ◌%◌, ◌^◌, ◌<◌, ◌≤◌, List, [], ◌∷◌, ◌++◌, length, get_or, take, sym, refl, ap, mod-lt, mod-eq_of_lt, mul_assoc, div-lt_iff_lt-mul, add-mul, pow-suc, div-add-mod', add-one, arith}
+use Rattle.std.proofs.Common.{◌≡◌, ℕ, zero, suc, ◌+◌, ◌*◌, ◌/◌, ◌%◌, ◌^◌, ◌<◌, ◌≤◌, List, [], ◌∷◌, length, get_or, refl, ap, mod-lt, mod-eq_of_lt, add-mul, div-add-mod', arith}
 use native.Mathlib.Nat.{mul-add-mod_self_right, pow-zero, pow-succ'}
-use Rattle.std.proofs.lemmas.List.{length_push, take_more}
 use Rattle.std.specs.List.{AllByRecursion as Each}
 use Rattle.std.proofs.lemmas.Nat.{div-mul-add, mul-le}
 use Rattle.record_bytes.specs.Numbers.{value, bytes_of, IsByte}
 
-pub power_positive : (k : ℕ) → 0 < 256 ^ k
+power_positive : (k : ℕ) → 0 < 256 ^ k
 power_positive zero = rw (pow-zero 256) (omega arith)
 power_positive (suc k) = rw (pow-succ' 256 k) (let p = power_positive k in omega arith)
 
@@ -39,14 +38,6 @@ bytes_of-value (b ∷ bs) h =
     let low = value-below bs h.1 in
     rw (div-mul-add b (256 ^ length bs) (value bs) low, mul-add-mod_self_right b (256 ^ length bs) (value bs), mod-eq_of_lt low, bytes_of-value bs h.1) refl
 
-pub bytes_of-bytes : (k n : ℕ) → n < 256 ^ k → Each IsByte (bytes_of k n)
-unfolding bytes_of
-bytes_of-bytes zero n h = tt
-bytes_of-bytes (suc k) n h =
-    let positive = power_positive k in
-    let bound : n < 256 * 256 ^ k = rw (← pow-succ' 256 k) h in
-    ((div-lt_iff_lt-mul positive).1 bound, bytes_of-bytes k (n % 256 ^ k) (mod-lt n positive))
-
 -- the bytes of a number as the code writes them
 pub bytes_of_one : (n : ℕ) → bytes_of 1 n ≡ n ∷ []
 unfolding bytes_of
@@ -64,25 +55,26 @@ bytes_of_four n =
     let last : n % 16777216 % 65536 % 256 / 1 ≡ n % 256 = omega arith in
     rw (second, third, last) refl
 
--- a number grows by one byte at its end
-value_push : (bs : List ℕ) (b : ℕ) → value (bs ++ b ∷ []) ≡ value bs * 256 + b
+-- the number that so many bytes stand for, as the code computes it
+pub value_of_one : (bs : List ℕ) → length bs ≡ 1 → get_or bs 0 0 ≡ value bs
 unfolding value
-value_push [] b = omega arith
-value_push (c ∷ bs) b =
-    rw (length_push bs b, add-one (length bs), pow-suc 256 (length bs), value_push bs b)
-    (let regroup : c * (256 ^ length bs * 256) ≡ c * 256 ^ length bs * 256 = sym (mul_assoc c (256 ^ length bs) 256) in
-    omega arith)
+value_of_one [] size = absurd (omega arith)
+value_of_one (a ∷ []) size = omega arith
+value_of_one (a ∷ b ∷ bs) size = absurd (omega arith)
 
-pub value-more : (xs : List ℕ) (i n : ℕ) → i < length xs → n ≡ value (take i xs) → n * 256 + get_or xs i 0 ≡ value (take (i + 1) xs)
-value-more xs i n h is = rw (take_more xs i 0 h, value_push (take i xs) (get_or xs i 0), is) refl
+pub value_of_two : (bs : List ℕ) → length bs ≡ 2 → get_or bs 0 0 * 256 + get_or bs 1 0 ≡ value bs
+unfolding value
+value_of_two [] size = absurd (omega arith)
+value_of_two (a ∷ []) size = absurd (omega arith)
+value_of_two (a ∷ b ∷ []) size = omega arith
+value_of_two (a ∷ b ∷ c ∷ bs) size = absurd (omega arith)
 
--- up to four bytes fit 32 bits
-pub digit_fits : (i n b : ℕ) → i < 4 → n < 256 ^ i → b < 256 → n * 256 + b < 4294967296
-digit_fits zero n b small below byte = omega arith
-digit_fits (suc zero) n b small below byte = omega arith
-digit_fits (suc (suc zero)) n b small below byte = omega arith
-digit_fits (suc (suc (suc zero))) n b small below byte = omega arith
-digit_fits (suc (suc (suc (suc i)))) n b small below byte = absurd (omega arith)
-
-pub digit_below : (i n b : ℕ) → n < 256 ^ i → b < 256 → n * 256 + b < 256 ^ (i + 1)
-digit_below i n b below byte = rw (add-one i, pow-suc 256 i) (omega arith)
+pub value_of_four : (bs : List ℕ) → length bs ≡ 4 →
+    get_or bs 0 0 * 16777216 + get_or bs 1 0 * 65536 + get_or bs 2 0 * 256 + get_or bs 3 0 ≡ value bs
+unfolding value
+value_of_four [] size = absurd (omega arith)
+value_of_four (a ∷ []) size = absurd (omega arith)
+value_of_four (a ∷ b ∷ []) size = absurd (omega arith)
+value_of_four (a ∷ b ∷ c ∷ []) size = absurd (omega arith)
+value_of_four (a ∷ b ∷ c ∷ d ∷ []) size = omega arith
+value_of_four (a ∷ b ∷ c ∷ d ∷ e ∷ bs) size = absurd (omega arith)

@@ -1,6 +1,6 @@
 -- Parts of one kind, one after the other: a loop that reads them, and what they tell. Assumes nothing.
 use Rattle.std.proofs.Common.{◌≡◌, ℕ, zero, suc, ◌+◌, ◌-◌, ◌<◌, ◌≤◌, List, [], ◌∷◌, ◌++◌, length, take, set, sym, refl, ap, ◌∙◌, subst₂, append_assoc, add-zero, add_assoc, arith, length-append}
-use Rattle.std.proofs.lemmas.List.{take_more_set, append-nil}
+use Rattle.std.proofs.lemmas.List.{take_more_set, take_all, append-nil}
 use Rattle.std.specs.List.{flat_map, AllByRecursion as Each}
 use Rattle.record_bytes.specs.Reading.{Cursor, Outcome, read, fault, and_then, several}
 use Rattle.record_bytes.specs.Numbers.{IsByte}
@@ -31,7 +31,7 @@ unfolding several
 several-fault zero one done code place c some is = absurd (omega arith)
 several-fault (suc n) one done code place c some is = rw (← is) refl
 
--- A loop that reads n parts into a table, of which i are there: how it begins, a turn, a fault, and its end.
+-- A loop that reads n parts into a table of n places, of which i are there: how it begins, a turn, a fault, and its end.
 module _ {A : Type 0} (n i : ℕ) (one : Cursor → Outcome A) (table : List A) (c : Cursor) (whole : Outcome (List A)) where
   abbrev pub Reads : Type 0
   Reads = behind (take i table) (several (n - i) one c) ≡ whole
@@ -45,21 +45,12 @@ module _ {A : Type 0} (n i : ℕ) (one : Cursor → Outcome A) (table : List A) 
   pub reads_fault : (code place : ℕ) → i < n → fault code place ≡ one c → Reads → fault code place ≡ whole
   reads_fault code place more is reads = several-fault (n - i) one (take i table) code place c (omega arith) is ∙ reads
 
-  pub reads_end : n ≤ i → i ≤ n → Reads → read (take n table) c ≡ whole
+  pub reads_end : length table ≡ n → n ≤ i → i ≤ n → Reads → read table c ≡ whole
   unfolding several
-  reads_end all most reads =
-      let same : n ≡ i = omega arith in
+  reads_end size all most reads =
       let none : n - i ≡ 0 = omega arith in
       let got : read (take i table ++ []) c ≡ whole = rw none at reads in
-      rw (same, ← append-nil (take i table)) got
-
-pub reads_begin : {A : Type 0} (n : ℕ) (one : Cursor → Outcome A) (table : List A) (c : Cursor) →
-    behind (take 0 table) (several (n - 0) one c) ≡ several n one c
-reads_begin {A = A} n one table c = let e : n - 0 ≡ n = omega arith in rw e (behind-nothing (several n one c))
-  where
-    behind-nothing : (o : Outcome (List A)) → behind [] o ≡ o
-    behind-nothing (read vs d) = refl
-    behind-nothing (fault code place) = refl
+      rw (append-nil, take_all i table (omega arith)) at got
 
 module _ {A : Type 0} (Sound : A → Type 0) (one : Cursor → Outcome A) (write : A → List ℕ) where
   pub steady_several : Steady one → (n : ℕ) → Steady (several n one)

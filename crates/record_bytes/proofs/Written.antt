@@ -9,10 +9,6 @@ use Rattle.record_bytes.specs.Numbers.{number, tested, ranged, kind_byte, value,
 use Rattle.record_bytes.proofs.Sequence.{both_read, test_passed}
 use Rattle.record_bytes.proofs.Digits.{length-bytes_of, value-bytes_of, bytes_of-value, value-below}
 
--- what is put behind what was put before
-pub put_then : (a b c x y : List ℕ) → b ≡ a ++ x → c ≡ b ++ y → c ≡ a ++ (x ++ y)
-put_then a b c x y first second = second ∙ ap (λ l. l ++ y) first ∙ append_assoc a x y
-
 pub number_written : (k n at : ℕ) (rest : List ℕ) → n < 256 ^ k →
     number k (record { at = at; rest = bytes_of k n ++ rest }) ≡ read n (record { at = at + k; rest = rest })
 unfolding number

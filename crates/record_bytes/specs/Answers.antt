@@ -25,9 +25,9 @@ abbrev pub cursor : Reader → Cursor
 cursor r = record { at = r.at; rest = r.rest.now }
 
 -- a number that was taken by a reader, which then stands at c; None says that a byte is missing
-abbrev pub taken : Option ℕ → Cursor → Outcome ℕ
-taken (Some n) c = read n c
-taken None c = fault 1 (end_of c)
+abbrev pub taken : {A : Type 0} → (A → ℕ) → Option A → Cursor → Outcome ℕ
+taken model (Some n) c = read (model n) c
+taken model None c = fault 1 (end_of c)
 
 -- a part that was read by a reader, which then stands at c; model says what the value means
 abbrev pub part : {A B : Type 0} → (A → B) → Result A Fault → Cursor → Outcome B

@@ -3,3 +3,4 @@ pub mod Numbers
 pub mod Row
 pub mod Answers
 pub mod Format
+pub mod Kinds

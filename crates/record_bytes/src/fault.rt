@@ -1,5 +1,5 @@
 // The first fault of a record, with its place: the offset of a byte, counted from 0 at the kind.
-#[derive(Clone, Copy)]
+#[derive(Clone, Copy, Debug, PartialEq, Eq)]
 pub enum Fault {
     // 1: an unknown kind, a byte missing, a byte too many
     Length { at: usize },

@@ -2,6 +2,8 @@
 #![tactic(auto)]
 
 pub mod fault;
+pub mod kind;
+pub mod number;
 pub mod piece;
 pub mod reader;
 pub mod reads;

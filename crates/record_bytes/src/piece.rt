@@ -1,4 +1,5 @@
 // The bytes of one record, and whether they are all there: not where the input ends inside it.
+// A struct and no enum of two cases, since the bytes are read in the same way in both.
 #[derive(Clone, Copy)]
 pub struct Piece<'a> {
     pub bytes: &'a [u8],

@@ -17,55 +17,41 @@ impl<'a> Records<'a> {
         Records { rest: input }
     }
 
-    // The next record; None, and nothing taken, at the end.
+    // The next record; None, and nothing taken, at the end. A method of its own and no Iterator, since it says what is left.
     pub fn next(&mut self) -> Option<Piece<'a>>
         ensures value { following result self.new.rest.now ≡ next_record self.old.rest.now }
         ensures kept { IfNone result (self.new.rest.now ≡ self.old.rest.now) }
     {
-        let Some(split) = split_first(self.rest) else {
-            return None;
-        };
+        let split = split_first(self.rest)?;
         self.rest = split.rest;
         Some(split.piece)
     }
 }
 
 // The first record of an input, if there is one. Going on so gives the one row of records that the input is.
+#[tactic(auto, using(crate::proofs::Row::one_row))]
 fn split_first<'a>(input: &'a [u8]) -> Option<Split<'a>>
     ensures value { first result ≡ next_record input.now }
     ensures one { OneRow }
 {
-    let len = input.len();
-    if len < 1 {
-        return None;
-    }
-    if len < 2 {
-        let none = &input[1..];
-        let piece = Piece {
-            bytes: none,
-            whole: false,
-        };
-        return Some(Split { piece, rest: none });
-    }
-    let body = &input[2..];
-    let size = input[0] as usize * 0x100 + input[1] as usize;
-    if body.len() < size {
+    let (size, body) = match input {
+        [] => return None,
+        [_] => {
+            let piece = Piece {
+                bytes: &[],
+                whole: false,
+            };
+            return Some(Split { piece, rest: &[] });
+        }
+        [high, low, body @ ..] => (u16::from_be_bytes([*high, *low]), body),
+    };
+    let Some((bytes, rest)) = body.split_at_checked(size.into()) else {
         let piece = Piece {
             bytes: body,
             whole: false,
         };
-        let end = body.len();
-        return Some(Split {
-            piece,
-            rest: &body[end..],
-        });
-    }
-    let piece = Piece {
-        bytes: &body[0..size],
-        whole: true,
+        return Some(Split { piece, rest: &[] });
     };
-    Some(Split {
-        piece,
-        rest: &body[size..],
-    })
+    let piece = Piece { bytes, whole: true };
+    Some(Split { piece, rest })
 }

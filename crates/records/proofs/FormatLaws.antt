@@ -1,8 +1,8 @@
 -- Packets, ticks and switches are read from what is written for them, and from nothing else. Assumes nothing.
-use Rattle.std.proofs.Common.{◌≡◌, ℕ, ◌+◌, ◌^◌, ◌<◌, ◌≤◌, ltb, List, ◌++◌, length, sym, refl, ap, ◌∙◌, subst, subst₂, append_assoc, arith, length-append}
+use Rattle.std.proofs.Common.{◌≡◌, ℕ, ◌+◌, ◌^◌, ◌<◌, ◌≤◌, Bool, true, false, cond, ◌&&◌, eqb, ltb, List, ◌++◌, length, sym, refl, ap, ◌∙◌, subst, subst₂, append_assoc, arith, length-append}
 use Rattle.std.specs.List.{AllByRecursion as Each}
 use Rattle.std.proofs.lemmas.Bool.{ltb-true, lt-ltb}
-use Rattle.record_bytes.specs.Reading.{Cursor, Outcome, read, and_then}
+use Rattle.record_bytes.specs.Reading.{Cursor, Outcome, read, fault, and_then, accepted, refused, closed, start}
 use Rattle.record_bytes.specs.Numbers.{number, kind_byte, bytes_of, IsByte}
 use Rattle.record_bytes.specs.Format.{Format}
 use Rattle.record_bytes.proofs.Sequence.{both_read, same_value, same_place}
@@ -14,7 +14,9 @@ use Rattle.records.specs.declared.record.Packet.{Packet}
 use Rattle.records.specs.declared.record.Arrival.{Arrival}
 use Rattle.records.specs.declared.record.Ticks.{Ticks}
 use Rattle.records.specs.declared.record.Switch.{Switch}
-use Rattle.records.specs.Formats.{packet_from, packet_record, packet_bytes, SoundPacket, port_number, arrival_from, arrival_record, arrival_bytes, SoundArrival, ticks_from, ticks_record, ticks_bytes, SoundTicks, switch_from, switch_record, switch_bytes, SoundSwitch}
+use Rattle.flows.specs.FlowFormat.{port_number}
+use Rattle.records.specs.Records.{judged_as}
+use Rattle.records.specs.Formats.{packet_from, packet_record, packet_bytes, SoundPacket, arrival_from, arrival_record, arrival_bytes, SoundArrival, number_of_kind, number_record, ticks_from, ticks_record, ticks_bytes, SoundTicks, switch_from, switch_record, switch_bytes, SoundSwitch}
 
 -- packets
 
@@ -141,6 +143,30 @@ module _ {A : Type 0} (code k : ℕ) (made : ℕ → A) (number_of : A → ℕ) 
       let P : A → Cursor → Type 0 = λ b d. (number_of b < 256 ^ k) × Told c d (single_bytes b) in
       subst₂ P (same_value n.3) (same_place n.3)
       (subst Fits same n-is.0, told_then c kind.1 n.1 _ _ kind-is.1 (subst Bytes same n-is.1))
+
+-- such a record is the record of its number, by which the value is made
+
+made_closed : {A : Type 0} (made : ℕ → A) (whole : Bool) (o : Outcome ℕ) →
+    closed whole (and_then o (λ n after. read (made n) after)) ≡ judged_as made (closed whole o)
+made_closed made whole (fault n p) = refl
+made_closed made whole (read n c) = ends (whole && eqb (length c.rest) 0)
+  where
+    ends : (b : Bool) → cond b (accepted (made n)) (refused 1 c.at) ≡ judged_as made (cond b (accepted n) (refused 1 c.at))
+    ends true = refl
+    ends false = refl
+
+made_behind : {A : Type 0} (made : ℕ → A) (k : ℕ) (whole : Bool) (kind : Outcome ℕ) →
+    closed whole (and_then kind (λ _ d. and_then (number k d) (λ n after. read (made n) after))) ≡ judged_as made (closed whole (and_then kind (λ _. number k)))
+made_behind made k whole (fault n p) = refl
+made_behind made k whole (read n c) = made_closed made whole (number k c)
+
+pub ticks_of_number : (whole : Bool) (bs : List ℕ) → ticks_record whole bs ≡ judged_as (λ n. record { count = n }) (number_record 4 4 whole bs)
+unfolding ticks_from number_of_kind
+ticks_of_number whole bs = made_behind (λ n. record { count = n }) 4 whole (kind_byte 4 (start bs))
+
+pub switch_of_number : (whole : Bool) (bs : List ℕ) → switch_record whole bs ≡ judged_as (λ n. record { number = n }) (number_record 5 1 whole bs)
+unfolding switch_from number_of_kind
+switch_of_number whole bs = made_behind (λ n. record { number = n }) 1 whole (kind_byte 5 (start bs))
 
 pub ticks_format : Format SoundTicks ticks_record ticks_bytes
 unfolding ticks_from

@@ -1,7 +1,8 @@
 -- The bytes of packets, ticks and switches. Assumes nothing.
-use Rattle.std.specs.Prelude.{ℕ, ◌<◌, Bool, List, ◌++◌, nat_lt}
+use Rattle.std.specs.Prelude.{ℕ, ◌<◌, Bool, List, ◌++◌}
 use Rattle.record_bytes.specs.Reading.{Cursor, Outcome, Verdict, ◌>>=◌, ◌>>◌, pure, closed, start}
-use Rattle.record_bytes.specs.Numbers.{number, tested, kind_byte, bytes_of}
+use Rattle.record_bytes.specs.Numbers.{number, kind_byte, bytes_of}
+use Rattle.flows.specs.FlowFormat.{port_number}
 use Rattle.records.specs.declared.record.Packet.{Packet}
 use Rattle.records.specs.declared.record.Arrival.{Arrival}
 use Rattle.records.specs.declared.record.Ticks.{Ticks}
@@ -15,16 +16,16 @@ packet_from = do
   length ← number 1
   pure (record { flow = flow; length = length })
 
--- one of so many ports; any other is fault 2
-unfoldable pub port_number : ℕ → Cursor → Outcome ℕ
-port_number ports = tested 1 (λ p. nat_lt p ports) 2
-
 -- a packet and the port by which it goes on, in a net of so many ports
 unfoldable pub arrival_from : ℕ → Cursor → Outcome Arrival
 arrival_from ports = do
   packet ← packet_from
   port ← port_number ports
   pure (record { packet = packet; port = port })
+
+-- a kind, and a number of k bytes
+unfoldable pub number_of_kind : ℕ → ℕ → Cursor → Outcome ℕ
+number_of_kind kind k = kind_byte kind >> number k
 
 -- ticks: their kind and how many
 unfoldable pub ticks_from : Cursor → Outcome Ticks
@@ -46,6 +47,9 @@ packet_record whole bs = closed whole (packet_from (start bs))
 
 abbrev pub arrival_record : ℕ → Bool → List ℕ → Verdict Arrival
 arrival_record ports whole bs = closed whole (arrival_from ports (start bs))
+
+abbrev pub number_record : ℕ → ℕ → Bool → List ℕ → Verdict ℕ
+number_record kind k whole bs = closed whole (number_of_kind kind k (start bs))
 
 abbrev pub ticks_record : Bool → List ℕ → Verdict Ticks
 ticks_record whole bs = closed whole (ticks_from (start bs))

@@ -1,26 +1,35 @@
 -- Which kinds of records are known where a program stands. Assumes nothing.
-use Rattle.std.specs.Prelude.{ℕ, cond, List, [], ◌∷◌, ◌==◌}
+use Rattle.std.specs.Prelude.{ℕ, Bool, true, false, if◌then◌else◌, List, Some, None, Option}
 use Rattle.records.specs.declared.stage.Program.{Program}
 use Rattle.records.specs.declared.stage.Program.TheVariants.{Admit, Ports, Evening}
 use Rattle.records.specs.declared.stage.Stage.{Stage}
 use Rattle.records.specs.declared.stage.Stage.TheVariants.{NoSwitch, NoNet, Still, Running}
-use Rattle.records.specs.declared.stage.Kind.{Kind}
-use Rattle.records.specs.declared.stage.Kind.TheVariants.{Unknown, Switch, Net, Flow, Packet, Arrival, Tick}
+use Rattle.record_bytes.specs.Kinds.{kind_in}
+use Rattle.record_bytes.specs.declared.kind.Kind.{Kind}
+use Rattle.record_bytes.specs.declared.kind.Kind.TheVariants.{Flow, Net, Packet, Tick, Switch}
 
--- packets and ticks, with a net; a single switch is told by which port a packet goes on
-abbrev pub played_kind : Program → ℕ → Kind
-played_kind Admit first = Unknown
-played_kind Ports first = cond (first == 3) Arrival (cond (first == 4) Tick Unknown)
-played_kind Evening first = cond (first == 3) Packet (cond (first == 4) Tick Unknown)
+-- `admit` only plans; the others play
+abbrev pub plays : Program → Bool
+plays Admit = false
+plays Ports = true
+plays Evening = true
 
--- flows only while the net stands still, a net only where there is none, and a switch only where there is none
-abbrev pub kind_at : Program → Stage → ℕ → Kind
-kind_at program NoSwitch first = cond (first == 5) Switch Unknown
-kind_at program NoNet first = cond (first == 2) Net Unknown
-kind_at program Still first = cond (first == 1) Flow (played_kind program first)
-kind_at program Running first = played_kind program first
+-- A switch only where there is none, a net only where there is none, and flows only while the net stands still. Packets
+-- and ticks come to a net, if the program plays.
+abbrev pub is_known : Program → Stage → Kind → Bool
+is_known program NoSwitch Switch = true
+is_known program NoNet Net = true
+is_known program Still Flow = true
+is_known program Still Packet = plays program
+is_known program Still Tick = plays program
+is_known program Running Packet = plays program
+is_known program Running Tick = plays program
+is_known program _ _ = false
 
--- a record with no bytes is of no kind
-abbrev pub kind_of : Program → Stage → List ℕ → Kind
-kind_of program stage [] = Unknown
-kind_of program stage (first ∷ rest) = kind_at program stage first
+-- the kind, if it is known
+abbrev pub known : Program → Stage → Option Kind → Option Kind
+known program stage None = None
+known program stage (Some kind) = if is_known program stage kind then Some kind else None
+
+abbrev pub kind_of : Program → Stage → List ℕ → Option Kind
+kind_of program stage bs = known program stage (kind_in bs)

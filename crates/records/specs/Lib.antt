@@ -1,3 +1,4 @@
 pub mod Kinds
 pub mod Formats
 pub mod Records
+pub mod Programs

@@ -1,64 +1,28 @@
-// What a record is where a program stands.
+// Which kinds of records are known where a program stands. Program and stage are given apart, as they stand in a session.
 ghost use Rattle.std.specs.Prelude.{◌≡◌};
-ghost use Rattle.records.specs.Kinds.{played_kind, kind_at, kind_of};
+ghost use Rattle.records.specs.Kinds.{is_known, kind_of};
 
-use super::stage::{Kind, Program, Stage};
+use super::stage::{Program, Stage};
+use record_bytes::kind::Kind;
 
-// Packets and ticks.
-fn played_kind(program: Program, first: u8) -> Kind
-    ensures { result ≡ played_kind program first }
+// A switch only where there is none, a net only where there is none, and flows only while the net stands still. Packets
+// and ticks come to a net, if the program plays.
+fn is_known(program: Program, stage: Stage, kind: Kind) -> bool
+    ensures { result ≡ is_known program stage kind }
 {
-    match program {
-        Program::Admit => Kind::Unknown,
-        Program::Ports => {
-            if first == 3 {
-                Kind::Arrival
-            } else if first == 4 {
-                Kind::Tick
-            } else {
-                Kind::Unknown
-            }
-        }
-        Program::Evening => {
-            if first == 3 {
-                Kind::Packet
-            } else if first == 4 {
-                Kind::Tick
-            } else {
-                Kind::Unknown
-            }
+    match kind {
+        Kind::Switch => stage == Stage::NoSwitch,
+        Kind::Net => stage == Stage::NoNet,
+        Kind::Flow => stage == Stage::Still,
+        Kind::Packet | Kind::Tick => {
+            program.plays() && matches!(stage, Stage::Still | Stage::Running)
         }
     }
 }
 
-fn kind_at(program: Program, stage: Stage, first: u8) -> Kind
-    ensures { result ≡ kind_at program stage first }
-{
-    match stage {
-        Stage::NoSwitch => {
-            if first == 5 {
-                Kind::Switch
-            } else {
-                Kind::Unknown
-            }
-        }
-        Stage::NoNet => { if first == 2 { Kind::Net } else { Kind::Unknown } }
-        Stage::Still => {
-            if first == 1 {
-                Kind::Flow
-            } else {
-                played_kind(program, first)
-            }
-        }
-        Stage::Running => played_kind(program, first),
-    }
-}
-
-pub(crate) fn kind_of(program: Program, stage: Stage, bytes: &[u8]) -> Kind
+// The kind of a record, if it is known.
+pub(crate) fn kind_of(program: Program, stage: Stage, bytes: &[u8]) -> Option<Kind>
     ensures { result ≡ kind_of program stage bytes.now }
 {
-    if bytes.len() == 0 {
-        return Kind::Unknown;
-    }
-    kind_at(program, stage, bytes[0])
+    Kind::told_by(bytes).filter(|kind| is_known(program, stage, *kind))
 }

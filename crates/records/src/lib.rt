@@ -2,6 +2,7 @@
 #![tactic(auto)]
 
 pub mod kinds;
+pub mod names;
 pub mod read;
 pub mod record;
 pub mod stage;

@@ -1,48 +1,40 @@
-// Records from bytes.
+// Records from bytes. Each reader begins its record and closes it itself, since what stands between takes other values
+// for each kind.
 ghost use Rattle.std.specs.Prelude.{◌≡◌, length};
 ghost use Rattle.record_bytes.specs.Answers.{cursor, part, verdict};
 ghost use Rattle.record_bytes.specs.Format.{Format};
+ghost use Rattle.record_bytes.specs.Kinds.{byte_of};
 ghost use Rattle.flows.specs.Models.{net_of};
-ghost use Rattle.records.specs.Formats.{packet_from, port_number, packet_record, packet_bytes, SoundPacket, arrival_record, arrival_bytes, SoundArrival, ticks_record, ticks_bytes, SoundTicks, switch_record, switch_bytes, SoundSwitch};
+ghost use Rattle.records.specs.Formats.{packet_from, packet_record, packet_bytes, SoundPacket, arrival_record, arrival_bytes, SoundArrival, number_record, ticks_record, ticks_bytes, SoundTicks, switch_record, switch_bytes, SoundSwitch};
 ghost use Rattle.records.specs.Records.{record_here, record_of};
 
 use super::kinds::kind_of;
 use super::record::{Arrival, Packet, Record, Switch, Ticks};
-use super::stage::{Kind, Program, Stage};
+use super::stage::{Program, Stage};
 use flows::net::Net;
-use flows::read_flow::read_flow;
+use flows::read_flow::{read_flow, read_port_number};
 use flows::read_net::read_net;
 use record_bytes::fault::Fault;
+use record_bytes::kind::Kind;
+use record_bytes::number::Number;
 use record_bytes::piece::Piece;
 use record_bytes::reader::Reader;
 
+#[tactic(auto, unfolding(crate::specs::Formats::packet_from))]
 fn read_packet_parts(reader: &mut Reader) -> Result<Packet, Fault>
     ensures { part (λ p. p) result (cursor reader.new) ≡ packet_from (cursor reader.old) }
 {
-    reader.kind(3)?;
-    let Some(flow) = reader.short() else {
+    reader.kind(Kind::Packet.byte())?;
+    let Some(flow) = reader.number() else {
         return Err(reader.missing());
     };
-    let Some(length) = reader.byte() else {
+    let Some(length) = reader.number() else {
         return Err(reader.missing());
     };
     Ok(Packet { flow, length })
 }
 
-// The number of a port of the net.
-fn read_port_number(reader: &mut Reader, net: &Net) -> Result<u8, Fault>
-    ensures { part (λ p. p) result (cursor reader.new) ≡ port_number (length (net_of net.now).ports) (cursor reader.old) }
-{
-    let at = reader.at;
-    let Some(port) = reader.byte() else {
-        return Err(reader.missing());
-    };
-    if port >= net.count {
-        return Err(Fault::Range { at });
-    }
-    Ok(port)
-}
-
+#[tactic(auto, using(crate::proofs::FormatLaws::packet_format))]
 fn read_packet(piece: Piece) -> Result<Packet, Fault>
     ensures value { verdict (λ p. p) result ≡ packet_record piece.entry.whole piece.entry.bytes.now }
     ensures format { Format SoundPacket packet_record packet_bytes }
@@ -52,6 +44,7 @@ fn read_packet(piece: Piece) -> Result<Packet, Fault>
     reader.close(piece.whole, packet)
 }
 
+#[tactic(auto, unfolding(crate::specs::Formats::arrival_from))]
 fn read_arrival(piece: Piece, net: &Net) -> Result<Arrival, Fault>
     ensures value { verdict (λ a. a) result ≡ arrival_record (length (net_of net.now).ports) piece.entry.whole piece.entry.bytes.now }
     ensures format { Format (SoundArrival (length (net_of net.now).ports)) (arrival_record (length (net_of net.now).ports)) arrival_bytes }
@@ -62,28 +55,35 @@ fn read_arrival(piece: Piece, net: &Net) -> Result<Arrival, Fault>
     reader.close(piece.whole, Arrival { packet, port })
 }
 
+// The number that a record of a kind and one number holds.
+#[tactic(auto, unfolding(crate::specs::Formats::number_of_kind))]
+fn read_number<T: Number>(piece: Piece, kind: Kind) -> Result<T, Fault>
+    ensures { verdict T.value result ≡ number_record (byte_of kind) T.SIZE piece.entry.whole piece.entry.bytes.now }
+{
+    let mut reader = Reader::new(piece.bytes);
+    reader.kind(kind.byte())?;
+    let Some(number) = reader.number() else {
+        return Err(reader.missing());
+    };
+    reader.close(piece.whole, number)
+}
+
+#[tactic(auto, using(crate::proofs::FormatLaws::ticks_format))]
 fn read_ticks(piece: Piece) -> Result<Ticks, Fault>
     ensures value { verdict (λ t. t) result ≡ ticks_record piece.entry.whole piece.entry.bytes.now }
     ensures format { Format SoundTicks ticks_record ticks_bytes }
 {
-    let mut reader = Reader::new(piece.bytes);
-    reader.kind(4)?;
-    let Some(count) = reader.word() else {
-        return Err(reader.missing());
-    };
-    reader.close(piece.whole, Ticks { count })
+    let count = read_number(piece, Kind::Tick)?;
+    Ok(Ticks { count })
 }
 
+#[tactic(auto, using(crate::proofs::FormatLaws::switch_format))]
 fn read_switch(piece: Piece) -> Result<Switch, Fault>
     ensures value { verdict (λ s. s) result ≡ switch_record piece.entry.whole piece.entry.bytes.now }
     ensures format { Format SoundSwitch switch_record switch_bytes }
 {
-    let mut reader = Reader::new(piece.bytes);
-    reader.kind(5)?;
-    let Some(number) = reader.byte() else {
-        return Err(reader.missing());
-    };
-    reader.close(piece.whole, Switch { number })
+    let number = read_number(piece, Kind::Switch)?;
+    Ok(Switch { number })
 }
 
 // A record of a kind that is known where the program stands; a net must have at least so many switches.
@@ -96,13 +96,13 @@ pub fn read_record(
 ) -> Result<Record, Fault>
     ensures { verdict record_of result ≡ record_here program stage (net_of net.now) least piece.entry.whole piece.entry.bytes.now }
 {
-    match kind_of(program, stage, piece.bytes) {
-        Kind::Unknown => Err(Fault::Length { at: 0 }),
-        Kind::Switch => Ok(Record::Switch(read_switch(piece)?)),
-        Kind::Net => Ok(Record::Net(read_net(piece, least)?)),
+    let kind = kind_of(program, stage, piece.bytes).ok_or(Fault::Length { at: 0 })?;
+    match kind {
         Kind::Flow => Ok(Record::Flow(read_flow(piece, net)?)),
+        Kind::Net => Ok(Record::Net(read_net(piece, least)?)),
+        Kind::Packet if program == Program::Ports => Ok(Record::Arrival(read_arrival(piece, net)?)),
         Kind::Packet => Ok(Record::Packet(read_packet(piece)?)),
-        Kind::Arrival => Ok(Record::Arrival(read_arrival(piece, net)?)),
         Kind::Tick => Ok(Record::Ticks(read_ticks(piece)?)),
+        Kind::Switch => Ok(Record::Switch(read_switch(piece)?)),
     }
 }

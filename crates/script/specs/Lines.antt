@@ -47,10 +47,8 @@ due_text number due = codes "flow " ++ (decimal number ++ (codes ": due " ++ dec
 abbrev pub dues_text : ℕ → DuesModel → List ℕ
 dues_text number d = due_text number (slice_index d.ticks (length d.road - 1)) ++ ports_text (codes ":") d.road d.ticks
 
--- Lines that can be said at once. What an admitted flow is due is known once all flows are, so it is not among them;
--- a silent line is not printed.
+-- Lines that can be said at once. What an admitted flow is due is known once all flows are, so it is not among them.
 abbrev pub line_text : Line → List ℕ
-line_text lines.Silent = []
 line_text (lines.Net ports switches) = codes "net: " ++ (decimal ports ++ (codes " ports, " ++ (decimal switches ++ codes " switches")))
 line_text (lines.Admitted number) = []
 line_text (lines.Refused name cause) = name_text name ++ (codes ": refused " ++ cause_text cause)

@@ -1,5 +1,5 @@
 -- What becomes of each record of a program's input. Assumes nothing.
-use Rattle.std.specs.Prelude.{ℕ, ◌+◌, min, Bool, true, false, cond, ◌&&◌, List, [], ◌∷◌, length, Some, None, Option, ◌==◌, nat_le, nat_lt}
+use Rattle.std.specs.Prelude.{ℕ, ◌+◌, min, Bool, false, cond, if◌then◌else◌, ◌&&◌, List, [], ◌∷◌, length, Some, None, Option, Ok, Err, Result, ◌==◌, nat_le, nat_lt}
 use Rattle.record_bytes.specs.Reading.{Verdict, accepted, refused}
 use Rattle.record_bytes.specs.Row.{Extent}
 use Rattle.record_bytes.specs.declared.fault.Fault.{Fault}
@@ -16,6 +16,7 @@ use Rattle.records.specs.declared.stage.Stage.{Stage}
 use Rattle.records.specs.declared.stage.Stage.TheVariants as stages
 use Rattle.records.specs.declared.record.Packet.{Packet}
 use Rattle.records.specs.declared.record.Arrival.{Arrival}
+use Rattle.records.specs.Kinds.{plays}
 use Rattle.records.specs.Records.{RecordModel, a_switch, a_net, a_flow, a_packet, an_arrival, some_ticks, record_here}
 use Rattle.script.specs.declared.line.Name.{Name}
 use Rattle.script.specs.declared.line.Name.TheVariants as names
@@ -23,6 +24,8 @@ use Rattle.script.specs.declared.line.Cause.{Cause}
 use Rattle.script.specs.declared.line.Cause.TheVariants as causes
 use Rattle.script.specs.declared.line.Line.{Line}
 use Rattle.script.specs.declared.line.Line.TheVariants as lines
+use Rattle.script.specs.declared.take.Misfit.{Misfit}
+use Rattle.script.specs.declared.take.Misfit.TheVariants as misfits
 
 -- How far a program has come: where it stands, its switch, its net with the flows that are admitted to it, the clock; and
 -- counts: records, those of them that took a flow number, refused packets of no flow, and other refused records.
@@ -71,12 +74,6 @@ least_switches programs.Admit switch = 0
 least_switches programs.Ports switch = switch + 1
 least_switches programs.Evening switch = 0
 
--- `admit` only plans; the others play
-abbrev pub plays : Program → Bool
-plays programs.Admit = false
-plays programs.Ports = true
-plays programs.Evening = true
-
 -- a record that begins with 1 takes the next flow number, whatever becomes of it
 abbrev pub takes_number : List ℕ → Bool
 takes_number [] = false
@@ -94,103 +91,37 @@ fault_at number place = cond (number == 1) (faults.Length place) (cond (number =
 
 -- Parts of a step. Each leaves all else as it was.
 abbrev pub with_switch : Standing → ℕ → Standing
-with_switch s switch =
-    record {
-      program = s.program;
-      stage = stages.NoNet;
-      switch = switch;
-      plan = s.plan;
-      clock = s.clock;
-      records = s.records;
-      numbered = s.numbered;
-      no_flow = s.no_flow;
-      others = s.others;
-    }
+with_switch s switch = record s { stage = stages.NoNet; switch = switch }
 
 abbrev pub with_net : Standing → NetModel → Standing
-with_net s net =
-    record {
-      program = s.program;
-      stage = stages.Still;
-      switch = s.switch;
-      plan = empty_plan net;
-      clock = s.clock;
-      records = s.records;
-      numbered = s.numbered;
-      no_flow = s.no_flow;
-      others = s.others;
-    }
+with_net s net = record s { stage = stages.Still; plan = empty_plan net }
 
 abbrev pub with_plan : Standing → PlanModel → Standing
-with_plan s plan =
-    record {
-      program = s.program;
-      stage = s.stage;
-      switch = s.switch;
-      plan = plan;
-      clock = s.clock;
-      records = s.records;
-      numbered = s.numbered;
-      no_flow = s.no_flow;
-      others = s.others;
-    }
+with_plan s plan = record s { plan = plan }
 
 abbrev pub with_clock : Standing → Stage → ℕ → Standing
-with_clock s stage clock =
-    record {
-      program = s.program;
-      stage = stage;
-      switch = s.switch;
-      plan = s.plan;
-      clock = clock;
-      records = s.records;
-      numbered = s.numbered;
-      no_flow = s.no_flow;
-      others = s.others;
-    }
+with_clock s stage clock = record s { stage = stage; clock = clock }
 
 abbrev pub with_refused : Standing → ℕ → ℕ → Standing
-with_refused s no_flow others =
-    record {
-      program = s.program;
-      stage = s.stage;
-      switch = s.switch;
-      plan = s.plan;
-      clock = s.clock;
-      records = s.records;
-      numbered = s.numbered;
-      no_flow = no_flow;
-      others = others;
-    }
+with_refused s no_flow others = record s { no_flow = no_flow; others = others }
 
 abbrev pub with_counts : Standing → ℕ → ℕ → Standing
-with_counts s records numbered =
-    record {
-      program = s.program;
-      stage = s.stage;
-      switch = s.switch;
-      plan = s.plan;
-      clock = s.clock;
-      records = records;
-      numbered = numbered;
-      no_flow = s.no_flow;
-      others = s.others;
-    }
+with_counts s records numbered = record s { records = records; numbered = numbered }
 
--- a line, and where the program stands then
+-- a line, if anything is said, and where the program stands then
 abbrev pub Done : Type 0
-Done = Line × Standing
+Done = Option Line × Standing
 
 -- a record that is refused, and is no packet of a flow or of none
 abbrev pub refuse : Standing → Name → Cause → Done
-refuse s name cause = (lines.Refused name cause, with_refused s s.no_flow (one_more s.others))
+refuse s name cause = (Some (lines.Refused name cause), with_refused s s.no_flow (one_more s.others))
 
 abbrev pub take_switch : Standing → ℕ → Done
-take_switch s switch = (lines.Silent, with_switch s switch)
+take_switch s switch = (None, with_switch s switch)
 
 -- a flow is admitted, or refused for the first test that it fails
 abbrev pub take_flow_as : Standing → FlowModel → Option Refusal → Done
-take_flow_as s f None = (lines.Admitted s.numbered, with_plan s (with_flow s.plan (record { number = s.numbered; flow = f })))
+take_flow_as s f None = (Some (lines.Admitted s.numbered), with_plan s (with_flow s.plan (record { number = s.numbered; flow = f })))
 take_flow_as s f (Some r) = refuse s (names.Flow s.numbered) (causes.Admission r)
 
 abbrev pub take_flow : Standing → FlowModel → Done
@@ -205,19 +136,21 @@ abbrev pub port_fits : FlowModel → NetModel → ℕ → ℕ → Bool
 port_fits f net switch port = passes port f.road && (port_at net port).switch == switch
 
 -- A packet is taken in, and the net no longer stands still; or it is refused, and counted if it is of no flow.
-abbrev pub take_packet : Standing → ℕ → Option Bool → Done
-take_packet s flow None = (lines.Refused (names.Record s.records) (causes.Packet flow), with_refused s (one_more s.no_flow) s.others)
-take_packet s flow (Some false) = (lines.Refused (names.Record s.records) (causes.Packet flow), s)
-take_packet s flow (Some true) = (lines.Silent, with_clock s stages.Running s.clock)
+abbrev pub take_packet : Standing → ℕ → Result (Unit {0}) Misfit → Done
+take_packet s flow (Ok _) = (None, with_clock s stages.Running s.clock)
+take_packet s flow (Err misfits.NoFlow) =
+    (Some (lines.Refused (names.Record s.records) (causes.Packet flow)), with_refused s (one_more s.no_flow) s.others)
+take_packet s flow (Err misfits.Unfit) = (Some (lines.Refused (names.Record s.records) (causes.Packet flow)), s)
 
--- whether a packet fits its flow; None where there is no such flow
-abbrev pub packet_fits : Option FlowModel → Packet → Option Bool
-packet_fits None p = None
-packet_fits (Some f) p = Some (length_fits f p.length)
+-- whether a packet fits its flow, if there is such a flow
+abbrev pub packet_fits : Option FlowModel → Packet → Result (Unit {0}) Misfit
+packet_fits None p = Err misfits.NoFlow
+packet_fits (Some f) p = if length_fits f p.length then Ok tt else Err misfits.Unfit
 
-abbrev pub arrival_fits : Option FlowModel → NetModel → ℕ → Arrival → Option Bool
-arrival_fits None net switch a = None
-arrival_fits (Some f) net switch a = Some (length_fits f a.packet.length && port_fits f net switch a.port)
+abbrev pub arrival_fits : Option FlowModel → NetModel → ℕ → Arrival → Result (Unit {0}) Misfit
+arrival_fits None net switch a = Err misfits.NoFlow
+arrival_fits (Some f) net switch a =
+    if length_fits f a.packet.length && port_fits f net switch a.port then Ok tt else Err misfits.Unfit
 
 -- 11: the memories of a whole net are at most 4,194,304 ticks together
 abbrev pub too_much : Program → NetModel → Bool
@@ -228,13 +161,13 @@ too_much programs.Evening net = nat_lt 4194304 (together net.memories)
 abbrev pub take_net : Standing → NetModel → Done
 take_net s net =
     cond (too_much s.program net) (refuse s names.Net causes.Memories)
-    (lines.Net (length net.ports) (length net.memories), with_net s net)
+    (Some (lines.Net (length net.ports) (length net.memories)), with_net s net)
 
 -- 10: the clock does not pass its last tick. Ticks, if there are any, end standstill.
 abbrev pub take_ticks : Standing → ℕ → Done
 take_ticks s count =
     cond (nat_le (s.clock + count) last_tick)
-    (lines.Silent, with_clock s (cond (count == 0) s.stage stages.Running) (s.clock + count))
+    (None, with_clock s (cond (count == 0) s.stage stages.Running) (s.clock + count))
     (refuse s (names.Record s.records) causes.Clock)
 
 -- what becomes of a record that is read without a fault
@@ -276,5 +209,4 @@ after_all s (e ∷ es) = after_all (step s e).1 es
 
 -- what a program says at the end, if it plays
 abbrev pub closing : Standing → List Line
-closing s =
-    cond (plays s.program) (lines.Clock s.clock ∷ lines.Counts s.no_flow s.others ∷ []) (lines.Silent ∷ lines.Silent ∷ [])
+closing s = if plays s.program then lines.Clock s.clock ∷ lines.Counts s.no_flow s.others ∷ [] else []

@@ -21,18 +21,18 @@ pub record OnlyCounts (s t : Standing) : Type 0 where
 -- what is refused changes nothing but counts
 abbrev pub RefusedOnlyCounts : Type 0
 RefusedOnlyCounts =
-    (s : Standing) (e : Extent) (name : Name) (cause : Cause) → (step s e).0 ≡ lines.Refused name cause → OnlyCounts s (step s e).1
+    (s : Standing) (e : Extent) (name : Name) (cause : Cause) → (step s e).0 ≡ Some (lines.Refused name cause) → OnlyCounts s (step s e).1
 
 -- a record inside which the input ends is refused for a fault, whatever is there of it
 abbrev pub CutIsRefused : Type 0
 CutIsRefused =
     (s : Standing) (e : Extent) → e.whole ≡ false →
-    (number place : ℕ) × ((step s e).0 ≡ lines.Refused (name_of s.records s.numbered e.bytes) (causes.Fault (fault_at number place)))
+    (number place : ℕ) × ((step s e).0 ≡ Some (lines.Refused (name_of s.records s.numbered e.bytes) (causes.Fault (fault_at number place))))
 
 -- a flow that is admitted stays among the admitted ones, whatever comes
 abbrev pub AdmittedStays : Type 0
 AdmittedStays =
-    (s : Standing) (e : Extent) (n : ℕ) (es : List Extent) → (step s e).0 ≡ lines.Admitted n →
+    (s : Standing) (e : Extent) (n : ℕ) (es : List Extent) → (step s e).0 ≡ Some (lines.Admitted n) →
     (f : FlowModel) × (flow_numbered (after_all (step s e).1 es).plan.flows n ≡ Some f)
 
 -- once standstill has ended, the plan is settled

@@ -2,7 +2,7 @@ use admission::refusal::Refusal;
 use record_bytes::fault::Fault;
 
 // What a refused record is called, by its first byte alone.
-#[derive(Clone, Copy)]
+#[derive(Clone, Copy, Debug, PartialEq, Eq)]
 pub enum Name {
     Flow { number: u64 },
     Net,
@@ -10,7 +10,7 @@ pub enum Name {
 }
 
 // Why a record is refused.
-#[derive(Clone, Copy)]
+#[derive(Clone, Copy, Debug, PartialEq, Eq)]
 pub enum Cause {
     // 1, 2 or 3, at a byte
     Fault { fault: Fault },
@@ -25,9 +25,8 @@ pub enum Cause {
 }
 
 // What is said of a record.
-#[derive(Clone, Copy)]
+#[derive(Clone, Copy, Debug, PartialEq, Eq)]
 pub enum Line {
-    Silent,
     Net { ports: u8, switches: u8 },
     Admitted { number: u64 },
     Refused { name: Name, cause: Cause },

@@ -8,7 +8,7 @@ use records::stage::{Program, Stage};
 pub struct Session {
     pub program: Program,
     pub stage: Stage,
-    // the switch that this program is, where it is one
+    // the switch that this program is, where it is one: program and stage say whether it is, so an Option would say it twice
     pub switch: u8,
     pub plan: Plan,
     pub clock: u64,

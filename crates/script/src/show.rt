@@ -60,8 +60,8 @@ impl fmt::Display for Line {
 
     fn fmt<W: fmt::Write>(&self, f: &mut fmt::Formatter<W>) -> fmt::Result {
         match self {
-            Line::Silent => Ok(()),
             Line::Net { ports, switches } => write!(f, "net: {ports} ports, {switches} switches"),
+            // what the flow is due is known once all flows are
             Line::Admitted { number: _ } => Ok(()),
             Line::Refused { name, cause } => write!(f, "{name}: refused {cause}"),
             Line::Clock { tick } => write!(f, "clock {tick}"),

@@ -1,5 +1,5 @@
 // What becomes of a record that was read.
-ghost use Rattle.std.specs.Prelude.{◌≡◌, IfOk, MatchResult};
+ghost use Rattle.std.specs.Prelude.{◌≡◌, Some, None, IfOk, MatchResult};
 ghost use Rattle.flows.specs.Models.{net_of, flow_of};
 ghost use Rattle.script.specs.Models.{standing};
 ghost use Rattle.script.specs.Session.{beginning, least_switches, name_of, refuse, take_switch, take_net, take_flow, take_ticks};
@@ -10,11 +10,15 @@ use admission::plan::Plan;
 use admission::refusal::{NotAdmitted, Numbered};
 use flows::flow::Flow;
 use flows::net::Net;
+use record_bytes::kind::Kind;
 use records::record::{Switch, Ticks};
 use records::stage::{Program, Stage};
 use std::alloc::{AllocError, Global};
 
 const LAST_TICK: u64 = 1_099_511_627_776;
+
+// What the memories of a whole net have together at most.
+const MOST_MEMORY: u64 = 4_194_304;
 
 impl Session {
     pub fn new(heap: Global, program: Program) -> Result<Session, AllocError>
@@ -22,9 +26,8 @@ impl Session {
     {
         let plan = Plan::new(heap, Net::none())?;
         let stage = match program {
-            Program::Admit => Stage::NoNet,
             Program::Ports => Stage::NoSwitch,
-            Program::Evening => Stage::NoNet,
+            Program::Admit | Program::Evening => Stage::NoNet,
         };
         Ok(Session {
             program,
@@ -44,9 +47,8 @@ impl Session {
         ensures { result ≡ least_switches self.now.program self.now.switch }
     {
         match self.program {
-            Program::Admit => 0,
-            Program::Ports => self.switch as u16 + 1,
-            Program::Evening => 0,
+            Program::Ports => u16::from(self.switch) + 1,
+            Program::Admit | Program::Evening => 0,
         }
     }
 
@@ -54,16 +56,11 @@ impl Session {
     pub(crate) fn name(&self, bytes: &[u8]) -> Name
         ensures { result ≡ name_of self.now.records self.now.numbered bytes.now }
     {
-        if bytes.len() == 0 {
-            return Name::Record {
-                number: self.records,
-            };
-        }
-        match bytes[0] {
-            1 => Name::Flow {
+        match Kind::told_by(bytes) {
+            Some(Kind::Flow) => Name::Flow {
                 number: self.numbered,
             },
-            2 => Name::Net,
+            Some(Kind::Net) => Name::Net,
             _ => Name::Record {
                 number: self.records,
             },
@@ -71,30 +68,24 @@ impl Session {
     }
 
     pub(crate) fn refuse(&mut self, name: Name, cause: Cause) -> Line
-        ensures { (result, standing self.new) ≡ refuse (standing self.old) name cause }
+        ensures { (Some result, standing self.new) ≡ refuse (standing self.old) name cause }
     {
         self.others = self.others.saturating_add(1);
         Line::Refused { name, cause }
     }
 
-    pub(crate) fn take_switch(&mut self, switch: Switch) -> Line
-        ensures { (result, standing self.new) ≡ take_switch (standing self.old) switch.number }
+    // Nothing is said of a switch.
+    pub(crate) fn take_switch(&mut self, switch: Switch)
+        ensures { (None, standing self.new) ≡ take_switch (standing self.old) switch.number }
     {
         self.switch = switch.number;
         self.stage = Stage::NoNet;
-        Line::Silent
     }
 
     pub(crate) fn take_net(&mut self, heap: Global, net: Net) -> Result<Line, AllocError>
-        ensures { MatchResult result (λ line. (line, standing self.new) ≡ take_net (standing self.old) (net_of net)) (λ _. standing self.new ≡ standing self.old) }
+        ensures { MatchResult result (λ line. (Some line, standing self.new) ≡ take_net (standing self.old) (net_of net)) (λ _. standing self.new ≡ standing self.old) }
     {
-        let together = net.memory_together();
-        let too_much = match self.program {
-            Program::Admit => false,
-            Program::Ports => false,
-            Program::Evening => together > 4_194_304,
-        };
-        if too_much {
+        if self.program == Program::Evening && net.memory_together() > MOST_MEMORY {
             return Ok(self.refuse(Name::Net, Cause::Memories));
         }
         self.plan = Plan::new(heap, net)?;
@@ -106,7 +97,7 @@ impl Session {
     }
 
     pub(crate) fn take_flow(&mut self, flow: Flow) -> Result<Line, AllocError>
-        ensures { MatchResult result (λ line. (line, standing self.new) ≡ take_flow (standing self.old) (flow_of flow)) (λ _. standing self.new ≡ standing self.old) }
+        ensures { MatchResult result (λ line. (Some line, standing self.new) ≡ take_flow (standing self.old) (flow_of flow)) (λ _. standing self.new ≡ standing self.old) }
     {
         let number = self.numbered;
         match self.plan.admit(Numbered { number, flow }) {
@@ -114,22 +105,22 @@ impl Session {
             Err(NotAdmitted::Refused { refusal }) => {
                 Ok(self.refuse(Name::Flow { number }, Cause::Admission { refusal }))
             }
-            Err(NotAdmitted::OutOfMemory) => Err(AllocError),
+            Err(NotAdmitted::OutOfMemory { error }) => Err(error),
         }
     }
 
-    pub(crate) fn take_ticks(&mut self, ticks: Ticks) -> Line
+    pub(crate) fn take_ticks(&mut self, ticks: Ticks) -> Option<Line>
         ensures { (result, standing self.new) ≡ take_ticks (standing self.old) ticks.count }
     {
-        let clock = self.clock + ticks.count as u64;
+        let clock = self.clock + u64::from(ticks.count);
         if clock > LAST_TICK {
             let number = self.records;
-            return self.refuse(Name::Record { number }, Cause::Clock);
+            return Some(self.refuse(Name::Record { number }, Cause::Clock));
         }
         self.clock = clock;
         if ticks.count != 0 {
             self.stage = Stage::Running;
         }
-        Line::Silent
+        None
     }
 }

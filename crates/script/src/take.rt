@@ -1,5 +1,5 @@
 // One record of the input.
-ghost use Rattle.std.specs.Prelude.{◌≡◌, true, false, Option, MatchResult};
+ghost use Rattle.std.specs.Prelude.{◌≡◌, MatchResult, Some, Err, true};
 ghost use Rattle.flows.specs.Models.{net_of, flow_of};
 ghost use Rattle.records.specs.Records.{record_of};
 ghost use Rattle.record_bytes.specs.Answers.{extent, verdict};
@@ -13,6 +13,7 @@ use super::session::Session;
 use flows::flow::Flow;
 use flows::net::Net;
 use record_bytes::fault::Fault;
+use record_bytes::kind::Kind;
 use record_bytes::piece::Piece;
 use records::read::read_record;
 use records::record::{Arrival, Packet, Record};
@@ -33,58 +34,77 @@ fn port_fits(flow: &Flow, net: &Net, switch: u8, port: u8) -> bool
     flow.passes(port) && net.port(port).switch == switch
 }
 
+// Why a packet is refused.
+#[derive(Clone, Copy, Debug, PartialEq, Eq)]
+enum Misfit {
+    // it is of no flow
+    NoFlow,
+    // it does not fit its flow
+    Unfit,
+}
+
 impl Session {
-    // A packet that fits its flow ends standstill; fits is None where there is no such flow.
-    fn take_fitting(&mut self, flow: u16, fits: Option<bool>) -> Line
+    // A packet that fits its flow ends standstill.
+    fn take_fitting(&mut self, flow: u16, fits: Result<(), Misfit>) -> Option<Line>
         ensures { (result, standing self.new) ≡ take_packet (standing self.old) flow fits }
     {
-        let number = self.records;
-        let refused = Line::Refused {
-            name: Name::Record { number },
-            cause: Cause::Packet { flow },
+        let Err(misfit) = fits else {
+            self.stage = Stage::Running;
+            return None;
         };
-        match fits {
-            None => {
-                self.no_flow = self.no_flow.saturating_add(1);
-                refused
-            }
-            Some(false) => refused,
-            Some(true) => {
-                self.stage = Stage::Running;
-                Line::Silent
-            }
+        if misfit == Misfit::NoFlow {
+            self.no_flow = self.no_flow.saturating_add(1);
+        }
+        Some(Line::Refused {
+            name: Name::Record {
+                number: self.records,
+            },
+            cause: Cause::Packet { flow },
+        })
+    }
+
+    // The flow of a packet, if the packet fits it.
+    fn flow_of_packet(&self, packet: Packet) -> Result<Flow, Misfit>
+        ensures { MatchResult result (λ flow. flow_numbered (standing self.now).plan.flows packet.flow ≡ Some (flow_of flow) × length_fits (flow_of flow) packet.length ≡ true) (λ misfit. packet_fits (flow_numbered (standing self.now).plan.flows packet.flow) packet ≡ Err misfit) }
+    {
+        let number = u64::from(packet.flow);
+        let flow = self.plan.numbered(number).ok_or(Misfit::NoFlow)?;
+        if length_fits(&flow, packet.length) {
+            Ok(flow)
+        } else {
+            Err(Misfit::Unfit)
         }
     }
 
-    fn packet_fits(&self, packet: Packet) -> Option<bool>
+    fn packet_fits(&self, packet: Packet) -> Result<(), Misfit>
         ensures { result ≡ packet_fits (flow_numbered (standing self.now).plan.flows packet.flow) packet }
     {
-        let Some(flow) = self.plan.numbered(packet.flow as u64) else {
-            return None;
-        };
-        Some(length_fits(&flow, packet.length))
+        self.flow_of_packet(packet)?;
+        Ok(())
     }
 
-    fn arrival_fits(&self, arrival: Arrival) -> Option<bool>
+    fn arrival_fits(&self, arrival: Arrival) -> Result<(), Misfit>
         ensures { result ≡ arrival_fits (flow_numbered (standing self.now).plan.flows arrival.packet.flow) (standing self.now).plan.net self.now.switch arrival }
     {
-        let Some(flow) = self.plan.numbered(arrival.packet.flow as u64) else {
-            return None;
-        };
-        Some(
-            length_fits(&flow, arrival.packet.length)
-                && port_fits(&flow, &self.plan.net, self.switch, arrival.port),
-        )
+        let flow = self.flow_of_packet(arrival.packet)?;
+        if port_fits(&flow, &self.plan.net, self.switch, arrival.port) {
+            Ok(())
+        } else {
+            Err(Misfit::Unfit)
+        }
     }
 
     // What becomes of a record that was read without a fault. Without memory nothing changes.
-    fn take_record(&mut self, heap: Global, record: &Record) -> Result<Line, AllocError>
+    fn take_record(&mut self, heap: Global, record: &Record) -> Result<Option<Line>, AllocError>
         ensures { MatchResult result (λ line. (line, standing self.new) ≡ take_record (standing self.old) (record_of «record».now)) (λ _. standing self.new ≡ standing self.old) }
     {
         match *record {
-            Record::Switch(switch) => Ok(self.take_switch(switch)),
-            Record::Net(net) => self.take_net(heap, net),
-            Record::Flow(flow) => self.take_flow(flow),
+            Record::Switch(switch) => {
+                self.take_switch(switch);
+                Ok(None)
+            }
+            Record::Net(net) => self.take_net(heap, net).map(Some),
+            Record::Flow(flow) => self.take_flow(flow).map(Some),
             Record::Packet(packet) => {
                 let fits = self.packet_fits(packet);
                 Ok(self.take_fitting(packet.flow, fits))
@@ -112,29 +132,29 @@ impl Session {
         heap: Global,
         bytes: &[u8],
         read: &Result<Record, Fault>,
-    ) -> Result<Line, AllocError>
+    ) -> Result<Option<Line>, AllocError>
         ensures { MatchResult result (λ line. (line, standing self.new) ≡ becomes (standing self.old) bytes.now (verdict record_of read.now)) (λ _. standing self.new ≡ standing self.old) }
     {
         match read {
             Err(fault) => {
                 let name = self.name(bytes);
-                Ok(self.refuse(name, Cause::Fault { fault: *fault }))
+                Ok(Some(self.refuse(name, Cause::Fault { fault: *fault })))
             }
             Ok(record) => self.take_record(heap, record),
         }
     }
 
-    // What a record is read as where the program stands. The laws are those of what becomes of it.
+    // What a record is read as where the program stands.
     fn read_here(&self, piece: Piece) -> Result<Record, Fault>
-        ensures laws { RefusedOnlyCounts × CutIsRefused × AdmittedStays × PlanSettled }
-        ensures value { verdict record_of result ≡ read_as (standing self.now) (extent piece.entry) }
+        ensures { verdict record_of result ≡ read_as (standing self.now) (extent piece.entry) }
     {
         let least = self.least_switches();
         read_record(self.program, self.stage, &self.plan.net, least, piece)
     }
 
-    // One record of the input, and what is said of it. Without memory nothing changes.
-    pub fn take(&mut self, heap: Global, piece: Piece) -> Result<Line, AllocError>
+    // One record of the input, and what is said of it, if anything is. Without memory nothing changes. The laws are those
+    // of what becomes of a record.
+    pub fn take(&mut self, heap: Global, piece: Piece) -> Result<Option<Line>, AllocError>
         ensures laws { RefusedOnlyCounts × CutIsRefused × AdmittedStays × PlanSettled }
         ensures value { MatchResult result (λ line. (line, standing self.new) ≡ step (standing self.old) (extent piece.entry)) (λ _. standing self.new ≡ standing self.old) }
     {
@@ -149,5 +169,5 @@ impl Session {
 fn takes_number(bytes: &[u8]) -> bool
     ensures { result ≡ takes_number bytes.now }
 {
-    bytes.len() > 0 && bytes[0] == 1
+    Kind::told_by(bytes) == Some(Kind::Flow)
 }

@@ -4,3 +4,4 @@
 pub mod numbers;
 pub mod plans;
 pub mod scripts;
+pub mod written;

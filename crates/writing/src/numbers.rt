@@ -1,27 +1,52 @@
-// Numbers put at the end of a record, high byte first. Where there is no memory, nothing is put.
-ghost use Rattle.std.specs.Prelude.{◌≡◌, ◌++◌, is_ok, if◌then◌else◌};
+// Numbers, high byte first, and kinds. Where there is no memory for one, nothing is put.
+ghost use Rattle.std.specs.Prelude.{◌≡◌, ◌++◌, OnOk, OnErr};
+ghost use Rattle.record_bytes.specs.Kinds.{byte_of};
 ghost use Rattle.record_bytes.specs.Numbers.{bytes_of};
 
+use super::written::Written;
+use record_bytes::kind::Kind;
 use std::alloc::AllocError;
 
-pub(crate) fn put_byte(out: &mut Vec<u8>, n: u8) -> Result<(), AllocError>
-    ensures { out.new.items ≡ (if is_ok result then out.old.items ++ bytes_of 1 n else out.old.items) }
-{
-    out.extend_from_slice(&[n])
+impl Written for u8 {
+    ghost bytes = { bytes_of 1 };
+
+    fn put(&self, out: &mut Vec<u8>) -> Result<(), AllocError>
+        ensures appended { OnOk result (out.new.items ≡ out.old.items ++ bytes_of 1 self.now) }
+        ensures kept { OnErr result (out.new.items ≡ out.old.items) }
+    {
+        out.extend_from_slice(&[*self])
+    }
 }
 
-pub(crate) fn put_short(out: &mut Vec<u8>, n: u16) -> Result<(), AllocError>
-    ensures { out.new.items ≡ (if is_ok result then out.old.items ++ bytes_of 2 n else out.old.items) }
-{
-    out.extend_from_slice(&[(n / 0x100) as u8, (n % 0x100) as u8])
+impl Written for u16 {
+    ghost bytes = { bytes_of 2 };
+
+    fn put(&self, out: &mut Vec<u8>) -> Result<(), AllocError>
+        ensures appended { OnOk result (out.new.items ≡ out.old.items ++ bytes_of 2 self.now) }
+        ensures kept { OnErr result (out.new.items ≡ out.old.items) }
+    {
+        out.extend_from_slice(&self.to_be_bytes())
+    }
 }
 
-pub(crate) fn put_word(out: &mut Vec<u8>, n: u32) -> Result<(), AllocError>
-    ensures { out.new.items ≡ (if is_ok result then out.old.items ++ bytes_of 4 n else out.old.items) }
-{
-    let first = (n / 0x100_0000) as u8;
-    let second = (n / 0x1_0000 % 0x100) as u8;
-    let third = (n / 0x100 % 0x100) as u8;
-    let last = (n % 0x100) as u8;
-    out.extend_from_slice(&[first, second, third, last])
+impl Written for u32 {
+    ghost bytes = { bytes_of 4 };
+
+    fn put(&self, out: &mut Vec<u8>) -> Result<(), AllocError>
+        ensures appended { OnOk result (out.new.items ≡ out.old.items ++ bytes_of 4 self.now) }
+        ensures kept { OnErr result (out.new.items ≡ out.old.items) }
+    {
+        out.extend_from_slice(&self.to_be_bytes())
+    }
+}
+
+impl Written for Kind {
+    ghost bytes = { λ kind. bytes_of 1 (byte_of kind) };
+
+    fn put(&self, out: &mut Vec<u8>) -> Result<(), AllocError>
+        ensures appended { OnOk result (out.new.items ≡ out.old.items ++ bytes_of 1 (byte_of self.now)) }
+        ensures kept { OnErr result (out.new.items ≡ out.old.items) }
+    {
+        self.byte().put(out)
+    }
 }

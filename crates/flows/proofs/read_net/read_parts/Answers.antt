@@ -1,69 +1,40 @@
-use Rattle.std.proofs.Common.{◌≡◌, ◌-◌, sym, refl, arith}
-use Rattle.std.proofs.lemmas.Result.{err_from_is_err_and}
+use Rattle.std.proofs.Common.{◌≡◌, ℕ, ◌<◌, ◌≤◌, List, ◌++◌, length, min, get_or, take, refl, arith}
+use Rattle.std.proofs.lemmas.List.{take_at, length-take}
 use Rattle.record_bytes.specs.Reading.{read}
-use Rattle.record_bytes.specs.Numbers.{ranged}
-use Rattle.record_bytes.proofs.Sequence.{several_all}
 use Rattle.record_bytes.specs.Answers.{cursor}
-use Rattle.flows.specs.Net.{net_model}
-use Rattle.flows.specs.NetFormat.{net_from, port_from}
+use Rattle.flows.specs.declared.port.Port.{Port}
+use Rattle.flows.specs.Net.{NetModel, SoundNet, SoundPort, no_port}
+use Rattle.flows.specs.NetFormat.{net_from}
 use Rattle.flows.proofs.NetLaws.{net_sound, places_sound}
 use Rattle.flows.proofs.read_net.read_parts.Goals as goal
 
-pub returns-in_err-kind : goal.returns-in_err-kind
-unfolding net_from
-returns-in_err-kind c =
-    let p = err_from_is_err_and c.from_residual.result c.from_residual.ensures.1 in
-    rw (p.1, p.2, ← c.in_err-kind.ensures.value) refl
-
-pub returns-in_err-count : goal.returns-in_err-count
-unfolding net_from
-returns-in_err-count c =
-    let p = err_from_is_err_and c.from_residual-in_err-count.result c.from_residual-in_err-count.ensures.1 in
-    rw (p.1, p.2, ← c.in_ok-kind.ensures.value, ← c.in_err-count.ensures.value) refl
-
-pub returns-in_err-ports : goal.returns-in_err-ports
-unfolding net_from
-returns-in_err-ports c =
-    let p = err_from_is_err_and c.from_residual-in_err-ports.result c.from_residual-in_err-ports.ensures.1 in
-    rw (p.1, p.2, ← c.in_ok-kind.ensures.value, ← c.in_ok-count.ensures.value, ← c.in_err-ports.ensures) refl
-
-pub returns-in_err-switches : goal.returns-in_err-switches
-unfolding net_from
-returns-in_err-switches c =
-    let whole : c.in_ok-count.count - 0 ≡ c.in_ok-count.count = omega arith in
-    let needs = rw whole at c.switches_needed-needed.ensures in
-    let p = err_from_is_err_and c.from_residual-in_err-switches.result c.from_residual-in_err-switches.ensures.1 in
-    rw (p.1, p.2, ← c.in_ok-kind.ensures.value, ← c.in_ok-count.ensures.value, ← c.in_ok-ports.ensures, ← needs, ← c.in_err-switches.ensures.value) refl
-
-pub returns-in_err-memory : goal.returns-in_err-memory
-unfolding net_from
-returns-in_err-memory c =
-    let whole : c.in_ok-count.count - 0 ≡ c.in_ok-count.count = omega arith in
-    let needs = rw whole at c.switches_needed-needed.ensures in
-    let p = err_from_is_err_and c.from_residual-in_err-memory.result c.from_residual-in_err-memory.ensures.1 in
-    rw (p.1, p.2, ← c.in_ok-kind.ensures.value, ← c.in_ok-count.ensures.value, ← c.in_ok-ports.ensures, ← needs, ← c.in_ok-switches.ensures.value, ← c.in_err-memory.ensures) refl
+-- a sound net in tables that are longer
+in_tables : (ports others : List Port) (memory rest : List ℕ) (count switches : ℕ) → length ports ≡ count → length memory ≡ switches →
+    SoundNet (record { ports = ports; memories = memory }) →
+    (count ≤ 64) × ((count ≤ length (ports ++ others)) × ((switches ≤ length (memory ++ rest)) × (((k : ℕ) → k < count → SoundPort switches (get_or (ports ++ others) k no_port)) × (((k : ℕ) → k < switches → get_or (memory ++ rest) k 0 ≤ 1048576) × Unit {0}))))
+in_tables ports others memory rest count switches ports-size memory-size sound =
+    let front : take count (ports ++ others) ≡ ports = take_at ports others count ports-size in
+    let start : take switches (memory ++ rest) ≡ memory = take_at memory rest switches memory-size in
+    places_sound (ports ++ others) count (memory ++ rest) switches (rw front ports-size) (rw start memory-size) (rw (front, start) sound)
 
 pub invariant_of-result : goal.invariant_of-result
 unfolding net_from
 invariant_of-result c =
-    let whole : c.in_ok-count.count - 0 ≡ c.in_ok-count.count = omega arith in
-    let needs = rw whole at c.switches_needed-needed.ensures in
-    let ports = c.in_ok-ports.ports in
-    let memory = c.in_ok-memory.memory in
-    let net = net_model ports c.in_ok-count.count memory c.in_ok-switches.switches in
-    let is : net_from c.args.least (cursor c.args.reader.now) ≡ read net (cursor c.read_memories.new.reader) =
-    rw (
-      ← c.in_ok-kind.ensures.value,
-      ← c.in_ok-count.ensures.value,
-      ← c.in_ok-ports.ensures,
-      ← needs,
-      ← c.in_ok-switches.ensures.value,
-      ← c.in_ok-memory.ensures,
-    ) refl in
-    let sound = net_sound c.args.least net (cursor c.args.reader.now) (cursor c.read_memories.new.reader) is in
-    let ports-size = (several_all (λ _. Unit {0}) port_from (λ v d e is. tt) _ _ _ _ (sym c.in_ok-ports.ensures)).0 in
-    let memory-size = (several_all (λ _. Unit {0}) (ranged 4 0 1048576) (λ v d e is. tt) _ _ _ _ (sym c.in_ok-memory.ensures)).0 in
-    let holds = places_sound ports c.in_ok-count.count memory c.in_ok-switches.switches ports-size memory-size sound.0 in
+    let n = c.in_ok-count.count in
+    let s = c.in_ok-switches.switches in
+    let all_ports : min n 64 ≡ n = omega (arith, c.in_ok-count.ensures.inside) in
+    let all_memories : min s 255 ≡ s = omega (arith, c.in_ok-switches.ensures.inside) in
+    let kind = rw c.byte.ensures at c.in_ok-kind.ensures.value in
+    let ports-size = simp (length-take, all_ports) at c.read_all.auto.places in
+    let memory-size = simp (length-take, all_memories) at c.read_all-2.auto.places in
+    let ports = simp (length-take, all_ports) at c.in_ok-read_all.ensures in
+    let memory = simp (length-take, all_memories) at c.in_ok-read_all-2.ensures in
+    let needs = simp take_at at c.switches_needed-needed.ensures in
+    let net : NetModel = record { ports = c.read_all.new.places; memories = c.read_all-2.new.places } in
+    let is : net_from c.args.least (cursor c.args.reader.now) ≡ read net (cursor c.read_all-2.new.reader) =
+    rw (← kind, ← c.in_ok-count.ensures.value, ← ports, ← needs, ← c.in_ok-switches.ensures.value, ← memory) refl in
+    let sound = net_sound c.args.least net (cursor c.args.reader.now) (cursor c.read_all-2.new.reader) is in
+    let holds = in_tables c.read_all.new.places _ c.read_all-2.new.places _ n s ports-size memory-size sound.0 in
     record {
       ports_few = holds.0;
       ports_listed = holds.1.0;
@@ -71,17 +42,3 @@ invariant_of-result c =
       each_port = holds.1.1.1.0;
       each_memory = holds.1.1.1.1.0;
     }
-
-pub returns : goal.returns
-unfolding net_from
-returns c =
-    let whole : c.in_ok-count.count - 0 ≡ c.in_ok-count.count = omega arith in
-    let needs = rw whole at c.switches_needed-needed.ensures in
-    rw (
-      ← c.in_ok-kind.ensures.value,
-      ← c.in_ok-count.ensures.value,
-      ← c.in_ok-ports.ensures,
-      ← needs,
-      ← c.in_ok-switches.ensures.value,
-      ← c.in_ok-memory.ensures,
-    ) refl

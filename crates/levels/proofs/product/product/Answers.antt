@@ -1,11 +1,10 @@
-use Rattle.std.proofs.Common.{◌≡◌, ℕ, ◌+◌, ◌*◌, ◌/◌, ◌%◌, sym, ap, ◌∙◌, mul_assoc, mul-add, arith}
+use Rattle.std.proofs.Common.{◌≡◌, ℕ, ◌+◌, ◌*◌, ◌/◌, ◌%◌, mul_assoc, mul-add, arith}
 use Rattle.std.proofs.lemmas.Nat.{mul-le, div-add-mod'}
 use Rattle.levels.proofs.product.product.Goals as goal
 
 -- a product with what was split
 split : (r t k : ℕ) → r * (t / k) * k + r * (t % k) ≡ r * t
-split r t k =
-    ap (λ n. n + r * (t % k)) (mul_assoc r (t / k) k) ∙ sym (mul-add r (t / k * k) (t % k)) ∙ ap (λ n. r * n) (div-add-mod' t k)
+split r t k = grind (arith, mul_assoc, mul-add, div-add-mod')
 
 pub overflow_mul-result : goal.overflow_mul-result
 overflow_mul-result c =

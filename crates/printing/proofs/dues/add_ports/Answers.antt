@@ -1,27 +1,32 @@
-use Rattle.std.proofs.Common.{◌+◌, cond, eqb, ◌++◌, get_or, drop, string_bytes, codes, sym, ap, ◌∙◌, append-nil, add-zero, arith}
-use Rattle.std.proofs.lemmas.List.{at_drop_more, at_drop_all, drop-drop, get_or-drop}
-use Rattle.std.proofs.lemmas.Bool.{ne_eqb}
+use Rattle.std.proofs.Common.{◌∷◌, [], ◌++◌, length, drop, string_bytes, sym, ◌∙◌, append-nil, length-append, arith, rules}
+use Rattle.std.proofs.lemmas.List.{at_drop_all}
+use Rattle.std.proofs.lemmas.Slice.Zip.{zip_turn, zip_end}
 use Rattle.script.specs.Lines.{ports_text}
 use Rattle.printing.proofs.OutputLaws.{print_port}
 use Rattle.printing.proofs.dues.add_ports.Goals as goal
 
-pub loop-i-preserved : goal.loop-i-preserved
-loop-i-preserved c =
-    let text = string_bytes c.loop-i.text in
+pub loop-port-preserved : goal.loop-port-preserved
+loop-port-preserved c =
     let road = c.args.road.now in
     let ticks = c.args.ticks.now in
-    let i = c.loop-i.i in
-    let separator = cond (eqb i 0) (codes ":") (codes ",") in
-    let step = at_drop_more (λ ps. text ++ ports_text separator ps (drop i ticks)) road i 0 c.loop-i-test.true in
-    let next = print_port text (string_bytes c.add_port.new.text) _ separator (get_or road i 0) (get_or ticks i 0) (drop (i + 1) road) (drop i ticks)
-    (sym (get_or-drop i ticks 0 0 ∙ ap (λ k. get_or ticks k 0) (add-zero i))) c.in_ok-add_port.ensures (sym step ∙ c.loop-i.invariant) in
-    rw (ne_eqb (i + 1) 0 (λ e. omega arith), ← (drop-drop 1 i ticks)) next
+    let turn = zip_turn road ticks c.loop-port.yielded c.into_iter-port-iterator.result c.loop-port.port-iterator c.next.new.self _ (search rules) (search rules)
+    c.loop-port.yielded_by _ c.in-Some.is c.next.ensures.steps in
+    let printed = print_port (string_bytes c.loop-port.text) (string_bytes c.add_port.new.text) _ c.loop-port.separator.now road ticks
+    (length c.loop-port.yielded) c.in-Some.port.now c.in-Some.due.now turn.0 (turn.2 0) (turn.3 0) c.in_ok-add_port.ensures c.loop-port.invariant.written in
+    record {
+      separates = search rules;
+      written = rw (length-append c.loop-port.yielded (_ ∷ [])) printed;
+    }
 
 pub returns : goal.returns
 unfolding ports_text
 returns c =
-    let text = string_bytes c.loop-i.text in
-    let i = c.loop-i.i in
+    let road = c.args.road.now in
+    let ticks = c.args.ticks.now in
+    let all = zip_end road ticks c.loop-port.yielded c.into_iter-port-iterator.result c.loop-port.port-iterator c.next.new.self _ (search rules) (search rules)
+    c.loop-port.yielded_by c.in-None.is c.next.ensures.steps in
+    let text = string_bytes c.loop-port.text in
+    let n = length c.loop-port.yielded in
     sym (append-nil text)
-    ∙ sym (at_drop_all (λ ps. text ++ ports_text (cond (eqb i 0) (codes ":") (codes ",")) ps (drop i c.args.ticks.now)) c.args.road.now i c.loop-i-test.false)
-    ∙ c.loop-i.invariant
+    ∙ sym (at_drop_all (λ ps. text ++ ports_text c.loop-port.separator.now ps (drop n ticks)) road n (omega (arith, all)))
+    ∙ c.loop-port.invariant.written

@@ -1,10 +1,7 @@
-use Rattle.std.proofs.Common.{◌≡◌, ◌++◌, Some, string_bytes, sym, ap, ◌∙◌, append_assoc, append-nil}
+use Rattle.std.proofs.Common.{◌≡◌, ◌++◌, string_bytes, sym, ap, ◌∙◌, append_assoc}
 use Rattle.printing.specs.Parts.{still_to_come}
 use Rattle.printing.proofs.OutputLaws.{told_on}
 use Rattle.printing.proofs.print.all_parts.Goals as goal
-
-pub loop-next-init : goal.loop-next-init
-loop-next-init c = ap (λ xs. xs ++ still_to_come (Some c.args.first)) c.new-text.ensures.bytes
 
 pub loop-next-preserved : goal.loop-next-preserved
 loop-next-preserved c =
@@ -15,8 +12,3 @@ loop-next-preserved c =
     c.in_ok-push_str.ensures.bytes ∙ ap (λ xs. text ++ xs) c.as_str.ensures.value in
     ap (λ xs. xs ++ rest) added ∙ append_assoc text part rest ∙ ap (λ xs. text ++ xs) (told_on part c.in_ok-part.part.rest _ c.in_ok-part.ensures.text)
     ∙ ap (λ o. text ++ still_to_come o) (sym c.in-Some.is) ∙ c.loop-next.invariant
-
-pub returns : goal.returns
-returns c =
-    let text = string_bytes c.loop-next.text in
-    sym (append-nil text) ∙ ap (λ o. text ++ still_to_come o) (sym c.in_default.is) ∙ c.loop-next.invariant

@@ -1,30 +1,12 @@
 use Rattle.std.proofs.Common.{refl}
 use Rattle.std.proofs.lemmas.Result.{err_from_is_err_and}
-use Rattle.records.specs.Formats.{ticks_from}
-use Rattle.records.proofs.FormatLaws.{ticks_format}
+use Rattle.records.proofs.FormatLaws.{ticks_of_number}
 use Rattle.records.proofs.read.read_ticks.Goals as goal
 
-pub returns-in_err-kind : goal.returns-in_err-kind
-unfolding ticks_from
-returns-in_err-kind c =
+pub returns-in_err-count-clause-value : goal.returns-in_err-count-clause-value
+returns-in_err-count-clause-value c =
     let p = err_from_is_err_and c.from_residual.result c.from_residual.ensures.1 in
-    record {
-      value = rw (p.1, p.2, ← c.new-reader.ensures, ← c.in_err-kind.ensures.value) refl;
-      format = ticks_format;
-    }
+    rw (p.1, p.2, ticks_of_number, ← c.in_err-count.ensures) refl
 
-pub returns-in_default : goal.returns-in_default
-unfolding ticks_from
-returns-in_default c =
-    record {
-      value = rw (c.missing.ensures, ← c.new-reader.ensures, ← c.in_ok-kind.ensures.value, ← c.in_default.ensures.value) refl;
-      format = ticks_format;
-    }
-
-pub returns : goal.returns
-unfolding ticks_from
-returns c =
-    record {
-      value = rw (c.close.ensures, ← c.new-reader.ensures, ← c.in_ok-kind.ensures.value, ← c.in-Some.ensures.value) refl;
-      format = ticks_format;
-    }
+pub returns-clause-value : goal.returns-clause-value
+returns-clause-value c = rw (ticks_of_number, ← c.in_ok-count.ensures) refl

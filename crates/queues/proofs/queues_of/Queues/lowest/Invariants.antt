@@ -1,5 +1,6 @@
-use Rattle.std.proofs.Common.{◌≡◌, ℕ, ◌<◌, get_or}
+use Rattle.std.proofs.Common.{◌≡◌, ℕ, ◌<◌, None}
+use Rattle.queues.specs.Held.{queue_of}
 use Rattle.queues.proofs.queues_of.Queues.lowest.Given as goal
 
 abbrev pub invariant-found : goal.invariant-found
-invariant-found l = (l.lowest ≡ 8) × ((k : ℕ) → k < l.class → get_or l.self.count k 0 ≡ 0)
+invariant-found l = record { none : l.lowest ≡ None; below : (k : ℕ) → k < l.class → (queue_of l.self k).count ≡ 0 }

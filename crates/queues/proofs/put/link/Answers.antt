@@ -1,6 +1,0 @@
-use Rattle.std.proofs.Common.{sym}
-use Rattle.std.proofs.lemmas.List.{set_past}
-use Rattle.queues.proofs.put.link.Goals as goal
-
-pub returns-else-place-cells : goal.returns-else-place-cells
-returns-else-place-cells c = sym (set_past c.args.cells.now c.args.place _ c.if-place-cells.false)
