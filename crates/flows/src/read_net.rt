@@ -57,7 +57,8 @@ fn read_all<T: Part>(reader: &mut Reader, places: &mut [T]) -> Result<(), Fault>
     Ok(())
 }
 
-// How many switches the ports name, counted from 0; at least as many as are asked for anyway.
+// How many switches the ports name, counted from 0; at least as many as are asked for anyway. A loop, since each port
+// names two.
 fn switches_needed(least: u16, ports: &[Port]) -> u16
     ensures { result ≡ needed least ports.now }
 {

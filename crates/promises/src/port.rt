@@ -31,7 +31,7 @@ impl Load {
             .unwrap_or_default()
     }
 
-    // Bursts of a class or lower.
+    // Bursts of a class or lower. That it is a class is tested once, in `promise`; what stands below takes it as given.
     fn bursts_up_to(&self, class: u8) -> u64
         requires { class ≤ 7 }
         ensures value { result ≡ load_bursts (load_model self.now) class }

@@ -12,7 +12,7 @@ use flows::flow::Flow;
 use flows::net::Net;
 
 impl Loads {
-    // Nothing is asked of any port.
+    // Nothing is asked of any port: one thing for all of them, as of pairs.
     pub fn none() -> Self
         ensures { loads_model result ≡ replicate 64 no_load }
     {
@@ -44,7 +44,7 @@ impl Loads {
         Some(dues)
     }
 
-    // One flow more at each port of its road; None where a sum would pass 32 bits.
+    // One flow more at each port of its road; None where a sum would pass 32 bits. A copy that grows in place, as of pairs.
     pub fn with(&self, flow: &Flow) -> Option<Loads>
         ensures { option_map loads_model result ≡ loads_with (flow_of flow.now) (flow_of flow.now).road (loads_model self.now) }
     {

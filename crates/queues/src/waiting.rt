@@ -8,7 +8,7 @@ use super::queues_of::Queues;
 use lines::packet::Packet;
 
 impl Queues {
-    // All ticks that wait, of the eight classes together.
+    // All ticks that wait, of the eight classes together: a sum that stays at its largest, which the library has not.
     pub fn waiting(&self) -> u64
         ensures { (cells : List Cell) (lines : List (List Packet)) → Holds self.now cells lines → result ≡ ticks_in lines }
     {
