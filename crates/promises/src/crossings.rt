@@ -30,7 +30,7 @@ impl Pairs {
         Some(pairs)
     }
 
-    // The same in place, since a copy is 393 KB; where it is None, some sums may have the flow already.
+    // The same in place, since a copy is 295 KB; where it is None, some sums may have the flow already.
     pub(crate) fn add(&mut self, flow: &Flow) -> Option<()>
         ensures { option_map (λ _. pairs_model self.new) result ≡ pairs_with (flow_of flow.now) (flow_of flow.now).road (pairs_model self.old) }
     {
