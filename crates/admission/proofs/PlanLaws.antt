@@ -16,14 +16,15 @@ use Rattle.flows.specs.Roads.{leads}
 use Rattle.flows.specs.Models.{net_of, flow_of}
 use Rattle.flows.proofs.LeadLaws.{leads_exactly}
 use Rattle.promises.specs.declared.loads.Loads.{Loads}
-use Rattle.promises.specs.declared.pairs.Pairs.{Pairs}
 use Rattle.promises.specs.declared.demand.Demand.{Demand}
 use Rattle.promises.specs.Models.{load_model, loads_model, pairs_model}
 use Rattle.promises.specs.Promises.{before, bursts, windowed}
 use Rattle.promises.specs.Demands.{Grown}
+use Rattle.promises.specs.Loads.{loads_along, pairs_along}
 use Rattle.promises.specs.Laws.{Kept, PairsOf, Squared, Bounded}
 use Rattle.promises.proofs.TableLaws.{table_kept}
 use Rattle.promises.proofs.PairLaws.{pairs-kept}
+use Rattle.promises.proofs.FollowLaws.{tables_follow, pairs_follow_lem}
 use Rattle.promises.proofs.FitLaws.{sums_fit_lem, pairs_fit_lem}
 use Rattle.memory.specs.Plans.{class_plan, regulator_plan, port_plan, switch_plan}
 use Rattle.admission.specs.declared.plan.Plan.{Plan}
@@ -120,6 +121,16 @@ rows [] p less = absurd (omega arith)
 rows (t ∷ tables) zero less = length-map t.ports.each load_model ∙ t.ports.all_ports
 rows (t ∷ tables) (suc p) less = rows tables p (omega arith)
 
+sizes : (d : Demand) → length (loads_model d.loads) ≡ 64
+sizes d = length-map d.loads.ports.each load_model ∙ d.loads.ports.all_ports
+
+square : (d : Demand) → Squared (pairs_model d.pairs)
+square d =
+    record {
+      rows = length-map d.pairs.from.each loads_model ∙ d.pairs.from.all_ports;
+      columns = λ p less. rows d.pairs.from.each p (omega (arith, d.pairs.from.all_ports));
+    }
+
 -- a flow that was pushed
 pub pushed : (xs ys : List Numbered) (n : Numbered) → ys ≡ xs ++ n ∷ [] → map numbered_model ys ≡ map numbered_model xs ++ numbered_model n ∷ []
 pushed xs ys n is = ap (map numbered_model) is ∙ map-append numbered_model xs (n ∷ [])
@@ -129,11 +140,8 @@ module _ (plan : Plan) (n : Numbered) (leading : leads (net_of plan.net) (flow_o
   abbrev net : Net
   net = plan.net
 
-  abbrev loads : Loads
-  loads = (box_value plan.demand).loads
-
-  abbrev pairs : Pairs
-  pairs = (box_value plan.demand).pairs
+  abbrev tried : Demand
+  tried = box_value plan.tried
 
   abbrev ns : List Numbered
   ns = vec_items plan.flows
@@ -155,44 +163,68 @@ module _ (plan : Plan) (n : Numbered) (leading : leads (net_of plan.net) (flow_o
       let few = ports-few net in
       All-weaker (λ p. p < length (net_of net).ports) (λ p. p < 64) (λ p less. omega arith) f.road route.known
 
-  few-flows : length gs ≤ 255 → length fs ≤ 255
-  few-flows few = let size = length-map gs (λ (g : NumberedModel). g.flow) in omega arith
-
   -- with fewer than 256 flows no sum passes 32 bits
-  pub demand_told : length gs ≤ 255 → Grown (box_value plan.demand) f None → ⊥
-  demand_told few (inl none) =
-      let fit = sums_fit_lem (loads_model loads) fs f (all_bounded ns) (flow-bounded n.flow) route.once low_ports (few-flows few)
-      (keep.kept_loads (loads_model loads) fs plan.loads_kept) in
-      none-some _ (sym none ∙ fit.1)
-  demand_told few (inr none) =
-      let fit = pairs_fit_lem (pairs_model pairs) fs f (all_bounded ns) (flow-bounded n.flow) route.once low_ports (few-flows few)
-      (keep.kept-pairs (pairs_model pairs) fs plan.pairs_kept) in
-      none-some _ (sym none ∙ fit.1)
+  pub demand_told : (d after : Demand) → d ≡ tried → length ns ≤ 255 → Grown d f None after → ⊥
+  demand_told d after same few grown = by (subst (λ (x : Demand). Grown x f None after) same grown)
+    where
+      few-flows : length fs ≤ 255
+      few-flows = let models = length-map ns numbered_model in let size = length-map gs (λ (g : NumberedModel). g.flow) in omega arith
 
-  sizes : length (loads_model loads) ≡ 64
-  sizes = length-map loads.ports.each load_model ∙ loads.ports.all_ports
-
-  square : Squared (pairs_model pairs)
-  square =
-      record {
-        rows = length-map pairs.from.each loads_model ∙ pairs.from.all_ports;
-        columns = λ p less. rows pairs.from.each p (omega (arith, pairs.from.all_ports));
-      }
+      by : Grown tried f None after → ⊥
+      by (inl (none, loads-left, pairs-left)) =
+          let fit = sums_fit_lem (loads_model tried.loads) fs f (all_bounded ns) (flow-bounded n.flow) route.once low_ports few-flows
+          (keep.kept_loads (loads_model tried.loads) fs plan.tried_loads) in
+          none-some _ (sym none ∙ fit.1)
+      by (inr (all, none, left)) =
+          let fit = pairs_fit_lem (pairs_model tried.pairs) fs f (all_bounded ns) (flow-bounded n.flow) route.once low_ports few-flows
+          (keep.kept-pairs (pairs_model tried.pairs) fs plan.tried_pairs) in
+          none-some _ (sym none ∙ fit.1)
 
   more : flows_of (gs ++ numbered_model n ∷ []) ≡ fs ++ f ∷ []
   more = flows-more gs (numbered_model n)
 
   -- what is asked with it
-  module _ (d : Demand) (grown : Grown (box_value plan.demand) f (Some d)) where
+  module _ (start d : Demand) (same : start ≡ tried) (grown-from : Grown start f (Some tt) d) where
+    grown : Grown tried f (Some tt) d
+    grown = subst (λ (x : Demand). Grown x f (Some tt) d) same grown-from
+
+    kept-more : Kept (loads_model d.loads) (fs ++ f ∷ [])
+    kept-more = table_kept (loads_model tried.loads) (loads_model d.loads) fs f (sizes tried) route.once low_ports (keep.kept_loads (loads_model tried.loads) fs plan.tried_loads) grown.0
+
+    between-more : PairsOf (pairs_model d.pairs) (fs ++ f ∷ [])
+    between-more =
+        (pairs-kept (pairs_model tried.pairs) (pairs_model d.pairs) fs f (square tried) route.once low_ports (keep.kept-pairs (pairs_model tried.pairs) fs plan.tried_pairs) grown.1).1
+
     pub sums_more : Kept (loads_model d.loads) (flows_of (gs ++ numbered_model n ∷ []))
-    sums_more =
-        subst (Kept (loads_model d.loads)) (sym more)
-        (table_kept (loads_model loads) (loads_model d.loads) fs f sizes route.once low_ports (keep.kept_loads (loads_model loads) fs plan.loads_kept) grown.0)
+    sums_more = subst (Kept (loads_model d.loads)) (sym more) kept-more
 
     pub pairs-more : PairsOf (pairs_model d.pairs) (flows_of (gs ++ numbered_model n ∷ []))
-    pairs-more =
-        subst (PairsOf (pairs_model d.pairs)) (sym more)
-        (pairs-kept (pairs_model pairs) (pairs_model d.pairs) fs f square route.once low_ports (keep.kept-pairs (pairs_model pairs) fs plan.pairs_kept) grown.1).1
+    pairs-more = subst (PairsOf (pairs_model d.pairs)) (sym more) between-more
+
+    -- the sums that are kept and those that were tried, each after the other along the road
+    loads_both : Kept (loads_along f.road (loads_model d.loads) (loads_model (box_value plan.demand).loads)) (fs ++ f ∷ []) ×
+        Kept (loads_along f.road (loads_model (box_value plan.demand).loads) (loads_model d.loads)) fs
+    loads_both =
+        tables_follow (loads_model (box_value plan.demand).loads) (loads_model d.loads) fs f (sizes (box_value plan.demand)) (sizes d)
+        (keep.kept_loads (loads_model (box_value plan.demand).loads) fs plan.loads_kept) kept-more
+
+    pairs_both : PairsOf (pairs_along f.road (pairs_model d.pairs) (pairs_model (box_value plan.demand).pairs)) (fs ++ f ∷ []) ×
+        PairsOf (pairs_along f.road (pairs_model (box_value plan.demand).pairs) (pairs_model d.pairs)) fs
+    pairs_both =
+        pairs_follow_lem (pairs_model (box_value plan.demand).pairs) (pairs_model d.pairs) fs f (square (box_value plan.demand)) (square d) low_ports
+        (keep.kept-pairs (pairs_model (box_value plan.demand).pairs) fs plan.pairs_kept) between-more
+
+    pub loads_grown : Kept (loads_along f.road (loads_model d.loads) (loads_model (box_value plan.demand).loads)) (flows_of (gs ++ numbered_model n ∷ []))
+    loads_grown = subst (Kept (loads_along f.road (loads_model d.loads) (loads_model (box_value plan.demand).loads))) (sym more) loads_both.0
+
+    pub pairs_grown : PairsOf (pairs_along f.road (pairs_model d.pairs) (pairs_model (box_value plan.demand).pairs)) (flows_of (gs ++ numbered_model n ∷ []))
+    pairs_grown = subst (PairsOf (pairs_along f.road (pairs_model d.pairs) (pairs_model (box_value plan.demand).pairs))) (sym more) pairs_both.0
+
+    pub loads_back : Kept (loads_along f.road (loads_model (box_value plan.demand).loads) (loads_model d.loads)) fs
+    loads_back = loads_both.1
+
+    pub pairs_back : PairsOf (pairs_along f.road (pairs_model (box_value plan.demand).pairs) (pairs_model d.pairs)) fs
+    pairs_back = pairs_both.1
 
     -- the tests by the sums are those of the rules
     judged-more :

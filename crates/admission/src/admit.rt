@@ -19,10 +19,12 @@ impl Plan {
         ensures { IfOk result (λ p. plan_of p ≡ empty_plan (net_of net)) }
     {
         let demand = Box::new(heap, Demand::none())?;
+        let tried = Box::new(heap, Demand::none())?;
         Ok(Plan {
             net,
             flows: Vec::new(heap),
             demand,
+            tried,
         })
     }
 
@@ -36,17 +38,22 @@ impl Plan {
         if self.flows.len() >= 256 {
             return Err(Refusal::Crowded.into());
         }
+        self.flows.push(new)?;
         // With so few flows no sum passes 32 bits, and none is missing.
-        // Taken apart here, since each step through a Result would copy all of it.
-        let Some(demand) = self.demand.as_ref().with(&new.flow) else {
+        let Some(()) = self.tried.as_mut().add(&new.flow) else {
             return Err(Refusal::Crowded.into());
         };
-        self.flows.push(new)?;
-        if let Err(refusal) = judge(&self.net, &demand, self.flows.as_slice()) {
+        let judged = judge(&self.net, self.tried.as_ref(), self.flows.as_slice());
+        if let Err(refusal) = judged {
             self.flows.pop();
+            self.tried
+                .as_mut()
+                .follow(self.demand.as_ref(), new.flow.road());
             return Err(refusal.into());
         }
-        *self.demand = demand;
+        self.demand
+            .as_mut()
+            .follow(self.tried.as_ref(), new.flow.road());
         Ok(())
     }
 }

@@ -9,15 +9,18 @@ use super::refusal::Numbered;
 use flows::net::Net;
 use promises::demand::Demand;
 
-// A net and the flows that are admitted to it, in the order of admission, with what they ask of it. All that is
-// promised them holds.
+// A net and the flows that are admitted to it, in the order of admission, with what they ask of it: once to keep, and
+// once more to try a flow on, since a copy for each flow would take longer than all else. All that is promised them holds.
 #[derive(Drop)]
 pub struct Plan {
     pub net: Net,
     pub flows: Vec<Numbered>,
     pub demand: Box<Demand>,
+    pub tried: Box<Demand>,
     ghost loads_kept: { keeps_loads (loads_model demand.value.loads) (flows_of (map numbered_model flows.items)) ≡ true },
     ghost pairs_kept: { keeps_pairs (pairs_model demand.value.pairs) (flows_of (map numbered_model flows.items)) ≡ true },
+    ghost tried_loads: { keeps_loads (loads_model tried.value.loads) (flows_of (map numbered_model flows.items)) ≡ true },
+    ghost tried_pairs: { keeps_pairs (pairs_model tried.value.pairs) (flows_of (map numbered_model flows.items)) ≡ true },
     ghost on_roads: { all_roads (net_of net) (flows_of (map numbered_model flows.items)) ≡ true },
     ghost fits: { passes_all (net_of net) (map numbered_model flows.items) ≡ true },
 }

@@ -15,7 +15,7 @@ use script::session::Session;
 use std::alloc::{AllocError, Global};
 
 // A part is at least so many bytes long, if it is not the last.
-const PART: usize = 65_536;
+const PART_BYTES: usize = 65_536;
 
 // Adds a line, with the dues of a plan.
 fn add_line(text: &mut String, plan: &Plan, line: Line) -> Result<(), AllocError>
@@ -52,7 +52,7 @@ impl<'a> Printout<'a> {
 
     // The lines of the next records, until they are long enough for a part; some records fewer are left after it. Where
     // no record is left, what is said at the end belongs to it, and it is the last.
-    pub fn part(mut self, heap: Global) -> Result<Part<'a>, AllocError>
+    pub fn next_part(mut self, heap: Global) -> Result<Part<'a>, AllocError>
         ensures text { IfOk result (λ p. Told p (to_come self.entry)) }
         ensures fewer { IfOk result (λ p. IfSome p.rest (λ q. length q.records.rest.now < length self.entry.records.rest.now)) }
     {
@@ -62,7 +62,7 @@ impl<'a> Printout<'a> {
                 continue;
             };
             add_line(&mut text, &self.plan, line)?;
-            if text.len() >= PART {
+            if text.len() >= PART_BYTES {
                 return Ok(Part {
                     text,
                     rest: Some(self),
@@ -89,7 +89,7 @@ fn all_parts(heap: Global, first: Printout) -> Result<String, AllocError>
     let mut text = String::new(heap);
     let mut next = Some(first);
     while let Some(printout) = next {
-        let part = printout.part(heap)?;
+        let part = printout.next_part(heap)?;
         text.push_str(part.text.as_str())?;
         next = part.rest;
     }

@@ -14,7 +14,7 @@ fn read_and_print(rt: &HostRuntime, program: Program) -> anyhow::Result<()> {
     let mut out = BufWriter::new(rt.alloc(), rt.stdout())?;
     let mut next = Some(Printout::new(rt.alloc(), program, input.as_slice())?);
     while let Some(printout) = next {
-        let part = printout.part(rt.alloc())?;
+        let part = printout.next_part(rt.alloc())?;
         out.write_all(part.text.as_bytes())?;
         next = part.rest;
     }

@@ -2,6 +2,8 @@ pub mod SumLaws
 pub mod TableLaws
 pub mod DueLaws
 pub mod PairLaws
+pub mod FollowLaws
+pub mod UntilLaws
 pub mod WindowLaws
 pub mod FitLaws
 pub mod PromiseLaws

@@ -1,10 +1,9 @@
 -- A flow more along a road, from each port to the next. Assumes nothing.
-use Rattle.std.proofs.Common.{◌≡◌, ℕ, ◌<◌, ◌≤◌, Bool, true, false, cond, ◌&&◌, ◌||◌, eqb, ◌⊎◌, List, [], ◌∷◌, ◌++◌, length, get_or, take, drop, set, Some, None, Option, sym, refl, ap, ◌∙◌, subst, inl, inr, arith}
+use Rattle.std.proofs.Common.{◌≡◌, ℕ, ◌<◌, ◌≤◌, Bool, true, false, cond, ◌&&◌, ◌||◌, eqb, ◌⊎◌, List, [], ◌∷◌, ◌++◌, length, get_or, take, drop, set, Some, None, sym, refl, ap, ◌∙◌, subst, inl, inr, arith}
 use Rattle.std.proofs.Math.Bool.{or-false}
 use Rattle.std.proofs.lemmas.List.{get_or-set_same, get_or-set_other, length-set}
-use Rattle.std.proofs.lemmas.Option.{cond_some}
 use Rattle.flows.specs.Flow.{FlowModel}
-use Rattle.promises.specs.Loads.{LoadModel, no_load, load_with, load_fits, pair_of, pair_at, put_pair, pairs_with}
+use Rattle.promises.specs.Loads.{LoadModel, no_load, load_with, load_fits, pair_of, pair_at, put_pair, pairs_with, pairs_until, pairs_along}
 use Rattle.promises.specs.Promises.{goes}
 use Rattle.promises.specs.Laws.{Squared, PairsKept}
 use Rattle.flows.specs.Flow.{Once}
@@ -19,34 +18,18 @@ window_front (p ∷ []) hop long is = absurd (omega arith)
 window_front (p ∷ q ∷ ps) hop long is = rw is (refl, refl)
 
 -- at most one port is left
-pub one_left : (f : FlowModel) (ps : List ℕ) (tables : List (List LoadModel)) → length ps ≤ 1 → pairs_with f ps tables ≡ Some tables
-unfolding pairs_with
-one_left f [] tables few = refl
-one_left f (p ∷ []) tables few = refl
+pub one_left : (f : FlowModel) (ps : List ℕ) (tables : List (List LoadModel)) → length ps ≤ 1 →
+    (pairs_with f ps tables ≡ Some tables) × (pairs_until f ps tables ≡ tables)
+unfolding pairs_with pairs_until
+one_left f [] tables few = (refl, refl)
+one_left f (p ∷ []) tables few = (refl, refl)
 one_left f (p ∷ q ∷ ps) tables few = absurd (omega arith)
 
-module _ (f : FlowModel) (p q : ℕ) (ps : List ℕ) (tables : List (List LoadModel)) (t : LoadModel) (whole : Option (List (List LoadModel))) where
-  -- t is what goes from p to q so far
-  pub pairs-more : (u : LoadModel) → t ≡ pair_at tables p q → Some u ≡ cond (load_fits t f) (Some (load_with t f)) None →
-      pairs_with f (p ∷ q ∷ ps) tables ≡ whole → pairs_with f (q ∷ ps) (put_pair tables p q u) ≡ whole
-  unfolding pairs_with
-  pairs-more u here got all =
-      let fit = cond_some (load_fits t f) (load_with t f) u (sym got) in
-      let is : u ≡ load_with (pair_at tables p q) f = sym fit.1 ∙ ap (λ x. load_with x f) here in
-      let there : load_fits (pair_at tables p q) f ≡ true = sym (ap (λ x. load_fits x f) here) ∙ fit.0 in
-      let step : pairs_with f (p ∷ q ∷ ps) tables ≡ pairs_with f (q ∷ ps) (put_pair tables p q (load_with (pair_at tables p q) f)) = rw (there, pairs_with) refl in
-      ap (λ x. pairs_with f (q ∷ ps) (put_pair tables p q x)) is ∙ sym step ∙ all
-
-  pub pairs-full : t ≡ pair_at tables p q → None ≡ cond (load_fits t f) (Some (load_with t f)) None → pairs_with f (p ∷ q ∷ ps) tables ≡ whole → None ≡ whole
-  unfolding pairs_with
-  pairs-full here got all = by (load_fits t f) refl got
-    where
-      by : (b : Bool) → load_fits t f ≡ b → None ≡ cond b (Some (load_with t f)) None → None ≡ whole
-      by true fits e = let z : ◌≡◌ {A = ℕ} 0 1 = cc in absurd (omega arith)
-      by false fits e =
-          let there : load_fits (pair_at tables p q) f ≡ false = sym (ap (λ x. load_fits x f) here) ∙ fits in
-          let step : pairs_with f (p ∷ q ∷ ps) tables ≡ None = rw (there, pairs_with) refl in
-          sym step ∙ all
+pub none_along : (ps : List ℕ) (us tables : List (List LoadModel)) → length ps ≤ 1 → pairs_along ps us tables ≡ tables
+unfolding pairs_along
+none_along [] us tables few = refl
+none_along (p ∷ []) us tables few = refl
+none_along (p ∷ q ∷ ps) us tables few = absurd (omega arith)
 
 -- no road goes on from a port that is not on it
 goes_apart : (p q : ℕ) (ps : List ℕ) → Each (λ r. r ≡ p → ⊥) ps → goes p q ps ≡ false
@@ -57,7 +40,7 @@ goes_apart p q (x ∷ y ∷ ys) all =
     or_from (eqb x p && eqb y q) (goes p q (y ∷ ys)) (and_left (eqb x p) (eqb y q) (ne_eqb x p all.0)) (goes_apart p q (y ∷ ys) all.1)
 
 -- the tables keep their sizes
-squared_put : (tables : List (List LoadModel)) (p q : ℕ) (t : LoadModel) → Squared tables → Squared (put_pair tables p q t)
+pub squared_put : (tables : List (List LoadModel)) (p q : ℕ) (t : LoadModel) → Squared tables → Squared (put_pair tables p q t)
 squared_put tables p q t squared =
     record {
       rows = length-set tables p _ ∙ squared.rows;
@@ -74,17 +57,17 @@ squared_put tables p q t squared =
     row r h (inr differs) = ap length (get_or-set_other tables p r (set (get_or tables p []) q t) [] differs) ∙ squared.columns r h
 
 module _ (tables : List (List LoadModel)) (a b : ℕ) (t : LoadModel) (squared : Squared tables) (a-port : a < 64) (b-port : b < 64) where
-  put_here : pair_at (put_pair tables a b t) a b ≡ t
+  pub put_here : pair_at (put_pair tables a b t) a b ≡ t
   put_here =
       ap (λ ls. get_or ls b no_load) (get_or-set_same tables a (set (get_or tables a []) b t) [] (omega (arith, squared.rows)))
       ∙ get_or-set_same (get_or tables a []) b t no_load (omega (arith, squared.columns a a-port))
 
-  put_beside : (q : ℕ) → (q ≡ b → ⊥) → pair_at (put_pair tables a b t) a q ≡ pair_at tables a q
+  pub put_beside : (q : ℕ) → (q ≡ b → ⊥) → pair_at (put_pair tables a b t) a q ≡ pair_at tables a q
   put_beside q differs =
       ap (λ ls. get_or ls q no_load) (get_or-set_same tables a (set (get_or tables a []) b t) [] (omega (arith, squared.rows)))
       ∙ get_or-set_other (get_or tables a []) b q t no_load differs
 
-  put_elsewhere : (p q : ℕ) → (p ≡ a → ⊥) → pair_at (put_pair tables a b t) p q ≡ pair_at tables p q
+  pub put_elsewhere : (p q : ℕ) → (p ≡ a → ⊥) → pair_at (put_pair tables a b t) p q ≡ pair_at tables p q
   put_elsewhere p q differs = ap (λ ls. get_or ls q no_load) (get_or-set_other tables a p (set (get_or tables a []) b t) [] differs)
 
 -- what goes between two ports is more where the road goes so, and else as it was
@@ -144,7 +127,7 @@ pairs-places f (a ∷ b ∷ ps) tables us squared once known e =
         let got = more (sym step ∙ e) in
         (got.0, λ p q. placed got.1 p q (eqb a p) refl)
 
-pair_push : (p q : ℕ) (t : LoadModel) (fs : List FlowModel) (f : FlowModel) →
+pub pair_push : (p q : ℕ) (t : LoadModel) (fs : List FlowModel) (f : FlowModel) →
     pair_of p q t (fs ++ f ∷ []) ≡ cond (goes p q f.road) (load_with (pair_of p q t fs) f) (pair_of p q t fs)
 unfolding pair_of
 pair_push p q t [] f = refl

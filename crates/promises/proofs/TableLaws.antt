@@ -1,5 +1,5 @@
 -- A flow more along a road, port by port. Assumes nothing.
-use Rattle.std.proofs.Common.{◌≡◌, ℕ, ◌<◌, Bool, true, false, cond, ◌||◌, eqb, List, [], ◌∷◌, ◌++◌, length, get_or, set, Some, None, Option, sym, refl, ap, ◌∙◌, subst, inl, inr, arith}
+use Rattle.std.proofs.Common.{◌≡◌, ℕ, ◌<◌, Bool, true, false, cond, ◌||◌, eqb, List, [], ◌∷◌, ◌++◌, length, get_or, set, Some, None, sym, refl, ap, ◌∙◌, subst, inl, inr, arith}
 use Rattle.flows.specs.Flow.{FlowModel}
 use Rattle.promises.specs.Loads.{LoadModel, no_load, load_with, load_of, load_fits, loads_with}
 use Rattle.promises.specs.Promises.{over}
@@ -11,36 +11,27 @@ use Rattle.std.proofs.lemmas.List.{get_or-set_same, get_or-set_other, length-set
 use Rattle.std.proofs.lemmas.Option.{cond_some, gets, slice_get-map}
 use Rattle.std.proofs.lemmas.Grind.{common_steps}
 use Rattle.std.proofs.ByRecursion.{All-weaker}
-use Rattle.std.proofs.lemmas.Bool.{or_from, ne_eqb, eqb-true, eqb-false, cases_Bool, cond-false}
+use Rattle.std.proofs.lemmas.Bool.{or_from, ne_eqb, eqb-true, eqb-false, cases_Bool, cond-true, cond-false}
 
 -- that of a port in a table, seen through a model
 pub ruleset of_port = (common_steps, gets, slice_get-map)
 
-module _ (f : FlowModel) (p : ℕ) (ps : List ℕ) (ts : List LoadModel) (t : LoadModel) (whole : Option (List LoadModel)) where
-  -- t is what is asked of the port so far
-  pub along_more : (u : LoadModel) → t ≡ get_or ts p no_load → Some u ≡ cond (load_fits t f) (Some (load_with t f)) None →
-      loads_with f (p ∷ ps) ts ≡ whole → loads_with f ps (set ts p u) ≡ whole
-  unfolding loads_with
-  along_more u here got all =
+-- A flow more of what is asked at one place: what is done next there, or where it does not fit.
+module _ {A : Type 0} (f : FlowModel) (t here : LoadModel) (next : LoadModel → A) (stop : A) (is : t ≡ here) where
+  pub one_more : (u : LoadModel) → Some u ≡ cond (load_fits t f) (Some (load_with t f)) None → next u ≡ cond (load_fits here f) (next (load_with here f)) stop
+  one_more u got =
       let fit = cond_some (load_fits t f) (load_with t f) u (sym got) in
-      let is : u ≡ load_with (get_or ts p no_load) f = sym fit.1 ∙ ap (λ x. load_with x f) here in
-      let there : load_fits (get_or ts p no_load) f ≡ true = sym (ap (λ x. load_fits x f) here) ∙ fit.0 in
-      let step : loads_with f (p ∷ ps) ts ≡ loads_with f ps (set ts p (load_with (get_or ts p no_load) f)) = rw (there, loads_with) refl in
-      ap (λ x. loads_with f ps (set ts p x)) is ∙ sym step ∙ all
+      ap next (sym fit.1) ∙ sym (cond-true (load_fits t f) (next (load_with t f)) stop fit.0) ∙ ap (λ x. cond (load_fits x f) (next (load_with x f)) stop) is
 
-  pub along_full : t ≡ get_or ts p no_load → None ≡ cond (load_fits t f) (Some (load_with t f)) None → loads_with f (p ∷ ps) ts ≡ whole → None ≡ whole
-  unfolding loads_with
-  along_full here got all = by (load_fits t f) refl got
+  pub one_full : None ≡ cond (load_fits t f) (Some (load_with t f)) None → stop ≡ cond (load_fits here f) (next (load_with here f)) stop
+  one_full got = by (load_fits t f) refl got ∙ ap (λ x. cond (load_fits x f) (next (load_with x f)) stop) is
     where
-      by : (b : Bool) → load_fits t f ≡ b → None ≡ cond b (Some (load_with t f)) None → None ≡ whole
+      by : (b : Bool) → load_fits t f ≡ b → None ≡ cond b (Some (load_with t f)) None → stop ≡ cond (load_fits t f) (next (load_with t f)) stop
       by true fits e = let z : ◌≡◌ {A = ℕ} 0 1 = cc in absurd (omega arith)
-      by false fits e =
-          let fits-there : load_fits (get_or ts p no_load) f ≡ false = sym (ap (λ x. load_fits x f) here) ∙ fits in
-          let step : loads_with f (p ∷ ps) ts ≡ None = rw (fits-there, loads_with) refl in
-          sym step ∙ all
+      by false fits e = sym (cond-false (load_fits t f) (next (load_with t f)) stop fits)
 
 -- the last flow of a list is asked for last
-load_push : (p : ℕ) (t : LoadModel) (fs : List FlowModel) (f : FlowModel) →
+pub load_push : (p : ℕ) (t : LoadModel) (fs : List FlowModel) (f : FlowModel) →
     load_of p t (fs ++ f ∷ []) ≡ cond (over p f) (load_with (load_of p t fs) f) (load_of p t fs)
 unfolding load_of
 load_push p t [] f = refl

@@ -1,11 +1,11 @@
 -- Laws of promises. Assumes nothing.
-use Rattle.std.specs.Prelude.{◌≡◌, ℕ, ◌+◌, ◌*◌, ◌<◌, ◌≤◌, List, [], ◌∷◌, ◌++◌, length, Some, slice_index, slice_index_or}
+use Rattle.std.specs.Prelude.{◌≡◌, ℕ, ◌+◌, ◌*◌, ◌<◌, ◌≤◌, ◌⊎◌, List, [], ◌∷◌, ◌++◌, length, take, Some, None, slice_index, slice_index_or}
 use Rattle.std.specs.List.{AllByRecursion as Each}
 use Rattle.flows.specs.Net.{NetModel}
 use Rattle.flows.specs.Flow.{FlowModel, Once}
 use Rattle.promises.specs.Promises.{den, before, promise, dues, due_over, windowed, queue_need, port_need}
 use Rattle.promises.specs.Examples.{WorkedExamples}
-use Rattle.promises.specs.Loads.{LoadModel, no_load, load_of, load_promise, loads_with, loads_dues, pair_of, pair_at, pairs_with}
+use Rattle.promises.specs.Loads.{LoadModel, no_load, load_of, load_promise, loads_with, loads_until, loads_along, loads_dues, pair_of, pair_at, pairs_with, pairs_until, pairs_along}
 
 -- classes are 0 to 7
 abbrev pub Classed : FlowModel → Type 0
@@ -62,6 +62,30 @@ PairsKept =
     (tables us : List (List LoadModel)) (fs : List FlowModel) (f : FlowModel) → Squared tables → Once f.road → Each (λ p. p < 64) f.road →
     PairsOf tables fs → pairs_with f f.road tables ≡ Some us → Squared us × PairsOf us (fs ++ f ∷ [])
 
+-- Tables of flows, and of these with one more: each becomes the other along the road of that flow.
+abbrev pub TablesFollow : Type 0
+TablesFollow =
+    (ts us : List LoadModel) (fs : List FlowModel) (f : FlowModel) → length ts ≡ 64 → length us ≡ 64 →
+    Kept ts fs → Kept us (fs ++ f ∷ []) → Kept (loads_along f.road us ts) (fs ++ f ∷ []) × Kept (loads_along f.road ts us) fs
+
+-- and so do those between each two ports
+abbrev pub PairsFollow : Type 0
+PairsFollow =
+    (tables us : List (List LoadModel)) (fs : List FlowModel) (f : FlowModel) → Squared tables → Squared us → Each (λ p. p < 64) f.road →
+    PairsOf tables fs → PairsOf us (fs ++ f ∷ []) → PairsOf (pairs_along f.road us tables) (fs ++ f ∷ []) × PairsOf (pairs_along f.road tables us) fs
+
+-- where not all sums of a road fit, its first ports have the flow, as many as fit
+abbrev pub UntilFull : Type 0
+UntilFull =
+    (f : FlowModel) (road : List ℕ) (ts : List LoadModel) → (n : ℕ) × (loads_with f (take n road) ts ≡ Some (loads_until f road ts)) ×
+    ((n ≡ length road) ⊎ (loads_with f (take (n + 1) road) ts ≡ None))
+
+-- and so between them
+abbrev pub PairsUntilFull : Type 0
+PairsUntilFull =
+    (f : FlowModel) (road : List ℕ) (tables : List (List LoadModel)) → (n : ℕ) × (pairs_with f (take n road) tables ≡ Some (pairs_until f road tables)) ×
+    ((n ≡ length road) ⊎ (pairs_with f (take (n + 1) road) tables ≡ None))
+
 -- with at most 255 flows asked for, no sum at a port passes 32 bits by a flow more
 abbrev pub SumsFit : Type 0
 SumsFit =
@@ -98,6 +122,10 @@ pub record PromiseLaws : Type 0 where
   pub dues : DuesKept
   pub last : LastIsDue
   pub pairs : PairsKept
+  pub follow : TablesFollow
+  pub pairs_follow : PairsFollow
+  pub until : UntilFull
+  pub pairs_until : PairsUntilFull
   pub sums_fit : SumsFit
   pub pairs_fit : PairsFit
   pub window : WindowKept

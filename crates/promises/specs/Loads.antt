@@ -63,6 +63,17 @@ loads_with f [] ts = Some ts
 loads_with f (p ∷ ps) ts =
     cond (load_fits (slice_index_or ts p no_load) f) (loads_with f ps (slice_set ts p (load_with (slice_index_or ts p no_load) f))) None
 
+-- the same as far as it goes: where a sum would pass 32 bits, the ports before it have the flow, and no other
+unfoldable pub loads_until : FlowModel → List ℕ → List LoadModel → List LoadModel
+loads_until f [] ts = ts
+loads_until f (p ∷ ps) ts =
+    cond (load_fits (slice_index_or ts p no_load) f) (loads_until f ps (slice_set ts p (load_with (slice_index_or ts p no_load) f))) ts
+
+-- a table that takes over what another says of the ports of a road
+unfoldable pub loads_along : List ℕ → List LoadModel → List LoadModel → List LoadModel
+loads_along [] us ts = ts
+loads_along (p ∷ ps) us ts = loads_along ps us (slice_set ts p (slice_index_or us p no_load))
+
 -- what port p promises class c by a table of all ports
 abbrev pub loads_promise : List LoadModel → ℕ → ℕ → Option ℕ
 loads_promise ts p c = cond (nat_le c 7) (load_promise (slice_index_or ts p no_load) c) None
@@ -98,3 +109,16 @@ pairs_with f [] tables = Some tables
 pairs_with f (p ∷ []) tables = Some tables
 pairs_with f (p ∷ q ∷ ps) tables =
     cond (load_fits (pair_at tables p q) f) (pairs_with f (q ∷ ps) (put_pair tables p q (load_with (pair_at tables p q) f))) None
+
+-- the same as far as it goes
+unfoldable pub pairs_until : FlowModel → List ℕ → List (List LoadModel) → List (List LoadModel)
+pairs_until f [] tables = tables
+pairs_until f (p ∷ []) tables = tables
+pairs_until f (p ∷ q ∷ ps) tables =
+    cond (load_fits (pair_at tables p q) f) (pairs_until f (q ∷ ps) (put_pair tables p q (load_with (pair_at tables p q) f))) tables
+
+-- tables that take over what others say between each port of a road and the next
+unfoldable pub pairs_along : List ℕ → List (List LoadModel) → List (List LoadModel) → List (List LoadModel)
+pairs_along [] us tables = tables
+pairs_along (p ∷ []) us tables = tables
+pairs_along (p ∷ q ∷ ps) us tables = pairs_along (q ∷ ps) us (put_pair tables p q (pair_at us p q))

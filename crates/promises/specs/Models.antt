@@ -6,7 +6,7 @@ use Rattle.promises.specs.declared.pairs.Pairs.{Pairs}
 use Rattle.promises.specs.Loads.{LoadModel}
 
 abbrev pub load_model : Load → LoadModel
-load_model l = record { bursts = map (λ c. c.bursts) l.classes; rates = map (λ c. c.rates) l.classes; longest = l.longest }
+load_model l = record { bursts = map (λ c. c.bursts) l.classes; rates = map (λ c. c.rates) l.classes; longest = map (λ c. c.longest) l.classes }
 
 abbrev pub loads_model : Loads → List LoadModel
 loads_model l = map load_model l.ports.each

@@ -2,7 +2,7 @@
 ghost use Rattle.std.specs.Prelude.{◌≡◌, replicate};
 ghost use Rattle.std.specs.Option.{option_map};
 ghost use Rattle.flows.specs.Models.{flow_of};
-ghost use Rattle.promises.specs.Loads.{no_load, pair_at, put_pair, pairs_with};
+ghost use Rattle.promises.specs.Loads.{no_load, pair_at, put_pair, pairs_with, pairs_until, pairs_along};
 ghost use Rattle.promises.specs.Models.{load_model, pairs_model};
 
 use super::load::Load;
@@ -21,24 +21,25 @@ impl Pairs {
         }
     }
 
-    // One flow more from each port of its road to the next; None where a sum would pass 32 bits.
-    pub fn with(&self, flow: &Flow) -> Option<Pairs>
-        ensures { option_map pairs_model result ≡ pairs_with (flow_of flow.now) (flow_of flow.now).road (pairs_model self.now) }
-    {
-        let mut pairs = *self;
-        pairs.add(flow)?;
-        Some(pairs)
-    }
-
-    // The same in place, since a copy is 295 KB; where it is None, some sums may have the flow already.
-    pub(crate) fn add(&mut self, flow: &Flow) -> Option<()>
-        ensures { option_map (λ _. pairs_model self.new) result ≡ pairs_with (flow_of flow.now) (flow_of flow.now).road (pairs_model self.old) }
+    // One flow more from each port of its road to the next, as at the ports themselves.
+    pub fn add(&mut self, flow: &Flow) -> Option<()>
+        ensures left { pairs_model self.new ≡ pairs_until (flow_of flow.now) (flow_of flow.now).road (pairs_model self.old) }
+        ensures told { option_map (λ _. pairs_model self.new) result ≡ pairs_with (flow_of flow.now) (flow_of flow.now).road (pairs_model self.old) }
     {
         for hop in flow.road().windows(2) {
             let load = self.pair(hop[0], hop[1]).with(flow)?;
             self.put(hop[0], hop[1], load);
         }
         Some(())
+    }
+
+    // What others say between each port of a road and the next.
+    pub fn follow(&mut self, other: &Pairs, road: &[u8])
+        ensures { pairs_model self.new ≡ pairs_along road.now (pairs_model other.now) (pairs_model self.old) }
+    {
+        for hop in road.windows(2) {
+            self.put(hop[0], hop[1], other.pair(hop[0], hop[1]));
+        }
     }
 
     // What goes from one port directly to another.

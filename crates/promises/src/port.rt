@@ -16,16 +16,14 @@ impl Load {
     pub fn none() -> Self
         ensures { load_model result ≡ no_load }
     {
-        Load {
-            classes: [Asked::default(); 8],
-            longest: [0; 8],
-        }
+        Load::default()
     }
 
     // What is asked in one class; nothing for what is no class.
     pub fn of_class(&self, class: u8) -> Asked
         ensures bursts { result.bursts ≡ slice_index (load_model self.now).bursts class }
         ensures rates { result.rates ≡ slice_index (load_model self.now).rates class }
+        ensures longest { result.longest ≡ slice_index (load_model self.now).longest class }
     {
         self.classes
             .get(class as usize)
@@ -63,9 +61,9 @@ impl Load {
         ensures { result ≡ load_long (load_model self.now) class }
     {
         let next = class as usize + 1;
-        self.longest[next..]
+        self.classes[next..]
             .iter()
-            .map(|longest| *longest)
+            .map(|asked| asked.longest)
             .max()
             .unwrap_or(0)
     }
@@ -96,7 +94,6 @@ impl Load {
         let class = flow.class as usize;
         let mut load = *self;
         load.classes[class] = load.classes[class].with(flow)?;
-        load.longest[class] = load.longest[class].max(flow.longest);
         Some(load)
     }
 
@@ -118,11 +115,12 @@ impl Load {
 impl Asked {
     // One flow more; None where a sum would pass 32 bits.
     fn with(&self, flow: &Flow) -> Option<Asked>
-        ensures { result ≡ (if nat_lt (self.now.bursts + flow.now.burst) 4294967296 && nat_lt (self.now.rates + flow.now.rate) 4294967296 then Some (record { bursts = self.now.bursts + flow.now.burst; rates = self.now.rates + flow.now.rate }) else None) }
+        ensures { result ≡ (if nat_lt (self.now.bursts + flow.now.burst) 4294967296 && nat_lt (self.now.rates + flow.now.rate) 4294967296 then Some (record { bursts = self.now.bursts + flow.now.burst; rates = self.now.rates + flow.now.rate; longest = max self.now.longest flow.now.longest }) else None) }
     {
         Some(Asked {
             bursts: self.bursts.checked_add(u32::from(flow.burst))?,
             rates: self.rates.checked_add(flow.rate)?,
+            longest: self.longest.max(flow.longest),
         })
     }
 }

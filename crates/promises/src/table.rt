@@ -2,7 +2,7 @@
 ghost use Rattle.std.specs.Prelude.{◌≡◌, ◌≤◌, take, replicate, IfSome, slice_index_or};
 ghost use Rattle.std.specs.Option.{option_map};
 ghost use Rattle.flows.specs.Models.{net_of, flow_of};
-ghost use Rattle.promises.specs.Loads.{no_load, loads_with, loads_promise, loads_dues};
+ghost use Rattle.promises.specs.Loads.{no_load, loads_with, loads_until, loads_along, loads_promise, loads_dues};
 ghost use Rattle.promises.specs.Models.{load_model, loads_model};
 
 use super::load::Load;
@@ -44,24 +44,25 @@ impl Loads {
         Some(dues)
     }
 
-    // One flow more at each port of its road; None where a sum would pass 32 bits. A copy that grows in place, as of pairs.
-    pub fn with(&self, flow: &Flow) -> Option<Loads>
-        ensures { option_map loads_model result ≡ loads_with (flow_of flow.now) (flow_of flow.now).road (loads_model self.now) }
-    {
-        let mut loads = *self;
-        loads.add(flow)?;
-        Some(loads)
-    }
-
-    // The same in place; where it is None, some sums may have the flow already.
-    pub(crate) fn add(&mut self, flow: &Flow) -> Option<()>
-        ensures { option_map (λ _. loads_model self.new) result ≡ loads_with (flow_of flow.now) (flow_of flow.now).road (loads_model self.old) }
+    // One flow more at each port of its road, in place. None where a sum would pass 32 bits: the ports before have it then.
+    pub fn add(&mut self, flow: &Flow) -> Option<()>
+        ensures left { loads_model self.new ≡ loads_until (flow_of flow.now) (flow_of flow.now).road (loads_model self.old) }
+        ensures told { option_map (λ _. loads_model self.new) result ≡ loads_with (flow_of flow.now) (flow_of flow.now).road (loads_model self.old) }
     {
         for port in flow.road() {
             let load = self.at(*port).with(flow)?;
             self.ports.put(*port, load);
         }
         Some(())
+    }
+
+    // What another table says of the ports of a road.
+    pub fn follow(&mut self, other: &Loads, road: &[u8])
+        ensures { loads_model self.new ≡ loads_along road.now (loads_model other.now) (loads_model self.old) }
+    {
+        for port in road {
+            self.ports.put(*port, other.at(*port));
+        }
     }
 
     // What is asked of a port; nothing past the last one.

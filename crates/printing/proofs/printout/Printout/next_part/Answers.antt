@@ -6,8 +6,8 @@ use Rattle.script.specs.Models.{standing}
 use Rattle.printing.specs.Output.{printed_if_said, printed_all, output_from}
 use Rattle.printing.specs.Parts.{to_come}
 use Rattle.printing.proofs.OutputLaws.{print_next, print_end}
-use Rattle.printing.proofs.printout.Printout.part.Goals.{In_ok-add_line, In_ok-line, in-Some-closing+in_ok-add_lines, in_default-closing}
-use Rattle.printing.proofs.printout.Printout.part.Goals as goal
+use Rattle.printing.proofs.printout.Printout.next_part.Goals.{In_ok-add_line, In_ok-line, in-Some-closing+in_ok-add_lines, in_default-closing}
+use Rattle.printing.proofs.printout.Printout.next_part.Goals as goal
 
 -- once the line of a record is there, what is left of the text comes from the records behind it
 line_added : (c : In_ok-add_line) →
@@ -23,11 +23,11 @@ record_taken c =
     let less = next-shorter c.loop-piece.self.records.rest.now _ _ (sym c.in-Some.ensures.value) in
     omega (arith, less, c.loop-piece.invariant.1)
 
-pub returns-then-len-ge-PART-clause-text : goal.returns-then-len-ge-PART-clause-text
-returns-then-len-ge-PART-clause-text c = search (line_added (goal.at.returns-then-len-ge-PART-clause-text c).In_ok-add_line)
+pub returns-then-len-ge-PART_BYTES-clause-text : goal.returns-then-len-ge-PART_BYTES-clause-text
+returns-then-len-ge-PART_BYTES-clause-text c = search (line_added (goal.at.returns-then-len-ge-PART_BYTES-clause-text c).In_ok-add_line)
 
-pub returns-then-len-ge-PART-clause-fewer : goal.returns-then-len-ge-PART-clause-fewer
-returns-then-len-ge-PART-clause-fewer c = record_taken (goal.at.returns-then-len-ge-PART-clause-fewer c).In_ok-line
+pub returns-then-len-ge-PART_BYTES-clause-fewer : goal.returns-then-len-ge-PART_BYTES-clause-fewer
+returns-then-len-ge-PART_BYTES-clause-fewer c = record_taken (goal.at.returns-then-len-ge-PART_BYTES-clause-fewer c).In_ok-line
 
 pub loop-piece-smaller : goal.loop-piece-smaller
 loop-piece-smaller c = next-shorter _ _ _ (sym c.in-Some.ensures.value)
