@@ -1,2 +1,3 @@
 pub mod NeedLaws
 pub mod GrowthLaws
+pub mod FitLaws

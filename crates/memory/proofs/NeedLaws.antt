@@ -39,7 +39,7 @@ rates_among p c (f ∷ fs) low =
     ])
 
 -- a road that goes on from a port passes it
-goes_over : (p q : ℕ) (ps : List ℕ) → goes p q ps ≡ true → passes p ps ≡ true
+pub goes_over : (p q : ℕ) (ps : List ℕ) → goes p q ps ≡ true → passes p ps ≡ true
 unfolding goes passes
 goes_over p q [] e = e
 goes_over p q (x ∷ []) e = let z : ◌≡◌ {A = ℕ} 0 1 = cc in absurd (omega arith)

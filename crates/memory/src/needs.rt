@@ -1,10 +1,12 @@
-// Needs of memory, from the sums that are kept. They are counted in 128 bits, so that none can pass its type.
+// Needs of memory, from the sums that are kept. Those of flows that can be admitted fit 64 bits. They are counted in 128,
+// since a table may hold more than such flows ask for, and no need of any table can pass this type.
 ghost use Rattle.std.specs.Prelude.{◌≡◌, ◌*◌, ◌^◌, ◌<◌, ◌≤◌, if◌then◌else◌, ◌==◌};
 ghost use Rattle.flows.specs.Net.{port_at};
 ghost use Rattle.flows.specs.Models.{net_of};
 ghost use Rattle.promises.specs.Models.{load_model, loads_model, pairs_model};
 ghost use Rattle.memory.specs.Plans.{NeedsKept};
 ghost use Rattle.memory.specs.Growth.{GrowthLaws};
+ghost use Rattle.memory.specs.Fit.{NeedsFit};
 ghost use Rattle.memory.specs.Needs.{ticks_within, class_need, class_needs, regulator_needs, whole_need, switch_needs};
 
 use flows::net::Net;
@@ -14,10 +16,10 @@ use promises::load::Load;
 const DEN: u128 = 1_000_000;
 
 // What may wait in a regulator: bursts, and what the rates bring within a window, rounded up once. The law says that
-// the needs are those of the flows, and that one flow more shortens none.
-#[tactic(auto, using(crate::proofs::NeedLaws::needs_kept, crate::proofs::GrowthLaws::growth_laws))]
+// the needs are those of the flows, that one flow more shortens none, and that all fit 64 bits if flows can be admitted.
+#[tactic(auto, using(crate::proofs::NeedLaws::needs_kept, crate::proofs::GrowthLaws::growth_laws, crate::proofs::FitLaws::needs_fit))]
 fn ticks_within(bursts: u32, rates: u32, window: u64) -> u128
-    ensures law { NeedsKept × GrowthLaws }
+    ensures law { NeedsKept × GrowthLaws × NeedsFit }
     ensures value { result ≡ ticks_within bursts rates window }
     ensures small { result < 2 ^ 97 }
 {
