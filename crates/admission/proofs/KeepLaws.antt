@@ -8,9 +8,11 @@ use Rattle.std.proofs.lemmas.Bool.{and_parts, and_from, cases_lt}
 use Rattle.flows.specs.Net.{NetModel}
 use Rattle.flows.specs.Flow.{FlowModel}
 use Rattle.flows.specs.Roads.{leads}
+use Rattle.promises.specs.declared.demand.Demand.{Demand}
+use Rattle.promises.specs.Models.{loads_model, pairs_model}
 use Rattle.promises.specs.Loads.{LoadModel, no_load, load_of, pair_of, pair_at}
 use Rattle.promises.specs.Laws.{Kept, PairsOf}
-use Rattle.admission.specs.Sound.{same_load, all_below, keeps_loads, keeps_pairs, all_roads}
+use Rattle.admission.specs.Sound.{same_load, all_below, keeps_loads, keeps_pairs, keeps_demand, all_roads}
 
 same_load_lem : (t u : LoadModel) → same_load t u ≡ true → t ≡ u
 same_load_lem t u is =
@@ -44,33 +46,45 @@ unfolding all_below
 each_below test zero all = refl
 each_below test (suc n) all = and_from _ _ (all n (omega arith)) (each_below test n (λ k less. all k (omega arith)))
 
-pub kept_loads : (loads : List LoadModel) (fs : List FlowModel) → keeps_loads loads fs ≡ true → Kept loads fs
+kept_loads : (loads : List LoadModel) (fs : List FlowModel) → keeps_loads loads fs ≡ true → Kept loads fs
 kept_loads loads fs is q less = same_load_lem _ _ (below_each (λ x. same_load (get_or loads x no_load) (load_of x no_load fs)) 64 is q less)
 
-pub loads_kept : (loads : List LoadModel) (fs : List FlowModel) → Kept loads fs → keeps_loads loads fs ≡ true
+loads_kept : (loads : List LoadModel) (fs : List FlowModel) → Kept loads fs → keeps_loads loads fs ≡ true
 loads_kept loads fs kept = each_below _ 64 (λ q less. load_same _ _ (kept q less))
 
-pub kept-pairs : (pairs : List (List LoadModel)) (fs : List FlowModel) → keeps_pairs pairs fs ≡ true → PairsOf pairs fs
+kept-pairs : (pairs : List (List LoadModel)) (fs : List FlowModel) → keeps_pairs pairs fs ≡ true → PairsOf pairs fs
 kept-pairs pairs fs is p q first second =
     same_load_lem _ _
     (below_each (λ y. same_load (pair_at pairs p y) (pair_of p y no_load fs)) 64
     (below_each (λ x. all_below (λ y. same_load (pair_at pairs x y) (pair_of x y no_load fs)) 64) 64 is p first) q second)
 
-pub pairs-kept : (pairs : List (List LoadModel)) (fs : List FlowModel) → PairsOf pairs fs → keeps_pairs pairs fs ≡ true
+pairs-kept : (pairs : List (List LoadModel)) (fs : List FlowModel) → PairsOf pairs fs → keeps_pairs pairs fs ≡ true
 pairs-kept pairs fs kept = each_below _ 64 (λ p first. each_below _ 64 (λ q second. load_same _ _ (kept p q first second)))
 
+-- a demand that is that of the flows
+pub kept_demand : (d : Demand) (fs : List FlowModel) → keeps_demand d fs ≡ true → Kept (loads_model d.loads) fs × PairsOf (pairs_model d.pairs) fs
+kept_demand d fs is =
+    let parts = and_parts (keeps_loads (loads_model d.loads) fs) _ is in
+    (kept_loads _ fs parts.0, kept-pairs _ fs parts.1)
+
+pub demand_kept : (d : Demand) (fs : List FlowModel) → Kept (loads_model d.loads) fs → PairsOf (pairs_model d.pairs) fs → keeps_demand d fs ≡ true
+demand_kept d fs loads pairs = and_from _ _ (loads_kept _ fs loads) (pairs-kept _ fs pairs)
+
 -- nothing is asked where there is no flow
-pub none_loads : (loads : List LoadModel) → loads ≡ replicate 64 no_load → keeps_loads loads [] ≡ true
+none_loads : (loads : List LoadModel) → loads ≡ replicate 64 no_load → keeps_loads loads [] ≡ true
 unfolding load_of
 none_loads loads is = loads_kept loads [] (λ q less. ap (λ ts. get_or ts q no_load) is ∙ get_or-replicate 64 q no_load no_load less)
 
-pub none-pairs : (pairs : List (List LoadModel)) → pairs ≡ replicate 64 (replicate 64 no_load) → keeps_pairs pairs [] ≡ true
+none-pairs : (pairs : List (List LoadModel)) → pairs ≡ replicate 64 (replicate 64 no_load) → keeps_pairs pairs [] ≡ true
 unfolding pair_of
 none-pairs pairs is =
     pairs-kept pairs [] (λ p q first second.
     ap (λ ts. pair_at ts p q) is
     ∙ ap (λ ts. get_or ts q no_load) (get_or-replicate 64 p (replicate 64 no_load) [] first)
     ∙ get_or-replicate 64 q no_load no_load second)
+
+pub none_kept : (d : Demand) → loads_model d.loads ≡ replicate 64 no_load → pairs_model d.pairs ≡ replicate 64 (replicate 64 no_load) → keeps_demand d [] ≡ true
+none_kept d loads pairs = and_from _ _ (none_loads _ loads) (none-pairs _ pairs)
 
 pub roads_each : (net : NetModel) (fs : List FlowModel) → all_roads net fs ≡ true → Each (λ f. leads net f.road ≡ true) fs
 unfolding all_roads

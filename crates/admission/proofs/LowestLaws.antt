@@ -1,20 +1,30 @@
 -- The first that passes a test. Assumes nothing.
-use Rattle.std.proofs.Common.{◌≡◌, ℕ, zero, suc, ◌+◌, ◌<◌, ◌≤◌, Bool, true, false, cond, Some, None, sym, refl, ap, ◌∙◌, inl, inr, arith}
+use Rattle.std.proofs.Common.{◌≡◌, ℕ, zero, suc, ◌+◌, ◌<◌, ◌≤◌, Bool, true, false, cond, Some, None, Option, sym, refl, ap, ◌∙◌, inl, inr, arith}
 use Rattle.std.specs.List.{find, range_with_len}
 use Rattle.std.proofs.lemmas.Bool.{cases_eq}
+use Rattle.std.proofs.lemmas.Option.{none-some}
+use Rattle.std.specs.Option.{MatchOption, IsSomeAnd, option_map}
+use Rattle.admission.proofs.FoundLaws.{made_by_map}
 use Rattle.admission.specs.Lowest.{lowest, LowestLaw}
 
 -- what a search through the range finds
-pub lowest_find : (test : ℕ → Bool) (n k : ℕ) → lowest test n k ≡ find test (range_with_len k n)
+lowest_find : (test : ℕ → Bool) (n k : ℕ) → lowest test n k ≡ find test (range_with_len k n)
 unfolding lowest
 lowest_find test zero k = refl
 lowest_find test (suc n) k = ap (λ rest. cond (test k) (Some k) rest) (lowest_find test n (k + 1))
+
+-- what is made of what the search found
+pub lowest_made : {C : Type 0} (v : ℕ → C) (Q : ℕ → C → Type 0) (found : Option ℕ) (r : Option C) (test : ℕ → Bool) (n : ℕ) →
+    ((x : ℕ) (y : C) → Q x y → y ≡ v x) → MatchOption found (r ≡ None) (λ x. IsSomeAnd r (Q x)) →
+    option_map (λ x. x) found ≡ find test (range_with_len 0 n) → r ≡ option_map v (lowest test n 0)
+lowest_made v Q found r test n makes is seen =
+    made_by_map (λ x. x) v Q found r makes is ∙ ap (option_map v) (seen ∙ sym (lowest_find test n 0))
 
 -- what was found from k on, passes and is the first
 found_from : (test : ℕ → Bool) (n k j : ℕ) → lowest test n k ≡ Some j →
     (k ≤ j) × (j < k + n) × (test j ≡ true) × ((i : ℕ) → k ≤ i → i < j → test i ≡ false)
 unfolding lowest
-found_from test zero k j e = let z : ◌≡◌ {A = ℕ} 0 1 = cc in absurd (omega arith)
+found_from test zero k j e = absurd (none-some j e)
 found_from test (suc n) k j e = by (test k) refl e (found_from test n (k + 1) j)
   where
     by : (b : Bool) → test k ≡ b → cond b (Some k) (lowest test n (k + 1)) ≡ Some j →
@@ -38,7 +48,7 @@ none_from test (suc n) k e i low high = by (test k) refl e (none_from test n (k 
   where
     by : (b : Bool) → test k ≡ b → cond b (Some k) (lowest test n (k + 1)) ≡ None →
         (lowest test n (k + 1) ≡ None → (m : ℕ) → k + 1 ≤ m → m < k + 1 + n → test m ≡ false) → test i ≡ false
-    by true passes got more = let z : ◌≡◌ {A = ℕ} 0 1 = cc in absurd (omega arith)
+    by true passes got more = absurd (none-some k (sym got))
     by false fails got more = elim (cases_eq i k) [ inl same ↦ ap test same ∙ fails | inr differs ↦ more got i (omega arith) (omega arith) ]
 
 pub lowest_law : LowestLaw

@@ -1,5 +1,5 @@
 -- What a plan keeps, with no flow and with one more. Assumes nothing.
-use Rattle.std.proofs.Common.{◌≡◌, ℕ, zero, suc, ◌+◌, ◌-◌, ◌<◌, ◌≤◌, Bool, true, false, cond, eqb, List, [], ◌∷◌, ◌++◌, map, length, get_or, take, Some, None, vec_items, box_value, Option, inl, inr, sym, refl, ap, ◌∙◌, subst, zero-add, arith}
+use Rattle.std.proofs.Common.{◌≡◌, ℕ, zero, suc, ◌+◌, ◌-◌, ◌<◌, ◌≤◌, Bool, true, false, cond, eqb, List, [], ◌∷◌, ◌++◌, map, length, get_or, take, Some, None, vec_len, vec_items, box_value, Option, inl, inr, sym, refl, ap, ◌∙◌, subst, zero-add, arith}
 use mathlib.Core.List.{map-append}
 use lib.ListN.{length-map}
 use Rattle.std.specs.List.{AllByRecursion as Each}
@@ -33,9 +33,9 @@ use Rattle.admission.specs.declared.refusal.Refusal.{Refusal}
 use Rattle.admission.specs.Models.{numbered_model}
 use Rattle.admission.specs.Tests.{NumberedModel, judged}
 use Rattle.admission.specs.Rules.{flows_of, Routed, Fits, refusal_of}
-use Rattle.admission.specs.Sound.{all_roads, passes_all}
+use Rattle.admission.specs.Sound.{keeps_demand, all_roads, passes_all}
 use Rattle.std.specs.Option.{is_none}
-use Rattle.admission.specs.Plans.{PlanModel, tested}
+use Rattle.admission.specs.Plans.{PlanModel, plan_of, tested}
 use Rattle.admission.proofs.RuleLaws.{admission_laws}
 use Rattle.admission.proofs.KeepLaws as keep
 
@@ -135,10 +135,35 @@ square d =
 pub pushed : (xs ys : List Numbered) (n : Numbered) → ys ≡ xs ++ n ∷ [] → map numbered_model ys ≡ map numbered_model xs ++ numbered_model n ∷ []
 pushed xs ys n is = ap (map numbered_model) is ∙ map-append numbered_model xs (n ∷ [])
 
+-- and popped again
+pub popped : (xs ys : List Numbered) (n : Numbered) (k : ℕ) → ys ≡ xs ++ n ∷ [] → k ≡ length ys → take (k - 1) ys ≡ xs
+popped xs ys n k is size =
+    let long = length_push xs n in
+    let short : length (xs ++ n ∷ []) - 1 ≡ length xs = omega arith in
+    ap (λ j. take (j - 1) ys) (size ∙ ap length is) ∙ ap (take (length (xs ++ n ∷ []) - 1)) is
+    ∙ ap (λ j. take j (xs ++ n ∷ [])) short ∙ take-append_seam xs (n ∷ [])
+
+tested_on : (p : PlanModel) (g : NumberedModel) → leads p.net g.flow.road ≡ true → tested p g ≡ refusal_of p.net (p.flows ++ g ∷ [])
+tested_on p g leading = cond-true (leads p.net g.flow.road) _ _ leading
+
+-- the road that was tested
+pub led : (net : NetModel) (road same : List ℕ) → road ≡ same → true ≡ leads net road → leads net same ≡ true
+led net road same is leading = ap (leads net) (sym is) ∙ sym leading
+
+-- all that a plan keeps
+pub record Keeps (net : Net) (xs : List Numbered) (demand tried : Demand) : Type 0 where
+  pub demand_kept : keeps_demand demand (flows_of (map numbered_model xs)) ≡ true
+  pub tried_kept : keeps_demand tried (flows_of (map numbered_model xs)) ≡ true
+  pub on_roads : all_roads (net_of net) (flows_of (map numbered_model xs)) ≡ true
+  pub fits : passes_all (net_of net) (map numbered_model xs) ≡ true
+
 -- A plan, and a flow more with a road through its net.
 module _ (plan : Plan) (n : Numbered) (leading : leads (net_of plan.net) (flow_of n.flow).road ≡ true) where
   abbrev net : Net
   net = plan.net
+
+  abbrev demand : Demand
+  demand = box_value plan.demand
 
   abbrev tried : Demand
   tried = box_value plan.tried
@@ -163,21 +188,25 @@ module _ (plan : Plan) (n : Numbered) (leading : leads (net_of plan.net) (flow_o
       let few = ports-few net in
       All-weaker (λ p. p < length (net_of net).ports) (λ p. p < 64) (λ p less. omega arith) f.road route.known
 
+  tried-kept : Kept (loads_model tried.loads) fs × PairsOf (pairs_model tried.pairs) fs
+  tried-kept = keep.kept_demand tried fs plan.tried_kept
+
+  demand-kept : Kept (loads_model demand.loads) fs × PairsOf (pairs_model demand.pairs) fs
+  demand-kept = keep.kept_demand demand fs plan.demand_kept
+
   -- with fewer than 256 flows no sum passes 32 bits
-  pub demand_told : (d after : Demand) → d ≡ tried → length ns ≤ 255 → Grown d f None after → ⊥
-  demand_told d after same few grown = by (subst (λ (x : Demand). Grown x f None after) same grown)
+  pub demand_told : (d after : Demand) (len : ℕ) → d ≡ tried → len ≡ vec_len plan.flows → len < 256 → Grown d f None after → ⊥
+  demand_told d after len same long few grown = by (subst (λ (x : Demand). Grown x f None after) same grown)
     where
       few-flows : length fs ≤ 255
-      few-flows = let models = length-map ns numbered_model in let size = length-map gs (λ (g : NumberedModel). g.flow) in omega arith
+      few-flows = let listed = plan.flows.ok.0 in let models = length-map ns numbered_model in let size = length-map gs (λ (g : NumberedModel). g.flow) in omega arith
 
       by : Grown tried f None after → ⊥
       by (inl (none, loads-left, pairs-left)) =
-          let fit = sums_fit_lem (loads_model tried.loads) fs f (all_bounded ns) (flow-bounded n.flow) route.once low_ports few-flows
-          (keep.kept_loads (loads_model tried.loads) fs plan.tried_loads) in
+          let fit = sums_fit_lem (loads_model tried.loads) fs f (all_bounded ns) (flow-bounded n.flow) route.once low_ports few-flows tried-kept.0 in
           none-some _ (sym none ∙ fit.1)
       by (inr (all, none, left)) =
-          let fit = pairs_fit_lem (pairs_model tried.pairs) fs f (all_bounded ns) (flow-bounded n.flow) route.once low_ports few-flows
-          (keep.kept-pairs (pairs_model tried.pairs) fs plan.tried_pairs) in
+          let fit = pairs_fit_lem (pairs_model tried.pairs) fs f (all_bounded ns) (flow-bounded n.flow) route.once low_ports few-flows tried-kept.1 in
           none-some _ (sym none ∙ fit.1)
 
   more : flows_of (gs ++ numbered_model n ∷ []) ≡ fs ++ f ∷ []
@@ -189,42 +218,35 @@ module _ (plan : Plan) (n : Numbered) (leading : leads (net_of plan.net) (flow_o
     grown = subst (λ (x : Demand). Grown x f (Some tt) d) same grown-from
 
     kept-more : Kept (loads_model d.loads) (fs ++ f ∷ [])
-    kept-more = table_kept (loads_model tried.loads) (loads_model d.loads) fs f (sizes tried) route.once low_ports (keep.kept_loads (loads_model tried.loads) fs plan.tried_loads) grown.0
+    kept-more = table_kept (loads_model tried.loads) (loads_model d.loads) fs f (sizes tried) route.once low_ports tried-kept.0 grown.0
 
     between-more : PairsOf (pairs_model d.pairs) (fs ++ f ∷ [])
-    between-more =
-        (pairs-kept (pairs_model tried.pairs) (pairs_model d.pairs) fs f (square tried) route.once low_ports (keep.kept-pairs (pairs_model tried.pairs) fs plan.tried_pairs) grown.1).1
+    between-more = (pairs-kept (pairs_model tried.pairs) (pairs_model d.pairs) fs f (square tried) route.once low_ports tried-kept.1 grown.1).1
 
-    pub sums_more : Kept (loads_model d.loads) (flows_of (gs ++ numbered_model n ∷ []))
+    sums_more : Kept (loads_model d.loads) (flows_of (gs ++ numbered_model n ∷ []))
     sums_more = subst (Kept (loads_model d.loads)) (sym more) kept-more
 
-    pub pairs-more : PairsOf (pairs_model d.pairs) (flows_of (gs ++ numbered_model n ∷ []))
+    pairs-more : PairsOf (pairs_model d.pairs) (flows_of (gs ++ numbered_model n ∷ []))
     pairs-more = subst (PairsOf (pairs_model d.pairs)) (sym more) between-more
 
-    -- the sums that are kept and those that were tried, each after the other along the road
-    loads_both : Kept (loads_along f.road (loads_model d.loads) (loads_model (box_value plan.demand).loads)) (fs ++ f ∷ []) ×
-        Kept (loads_along f.road (loads_model (box_value plan.demand).loads) (loads_model d.loads)) fs
-    loads_both =
-        tables_follow (loads_model (box_value plan.demand).loads) (loads_model d.loads) fs f (sizes (box_value plan.demand)) (sizes d)
-        (keep.kept_loads (loads_model (box_value plan.demand).loads) fs plan.loads_kept) kept-more
+    -- what is kept, after what was tried along the road, is of the flows with it; and what was tried, after what is kept, of those without
+    grows : (after : Demand) → loads_model after.loads ≡ loads_along f.road (loads_model d.loads) (loads_model demand.loads) →
+        pairs_model after.pairs ≡ pairs_along f.road (pairs_model d.pairs) (pairs_model demand.pairs) → keeps_demand after (fs ++ f ∷ []) ≡ true
+    grows after loads pairs =
+        keep.demand_kept after (fs ++ f ∷ [])
+        (subst (λ ts. Kept ts (fs ++ f ∷ [])) (sym loads)
+        (tables_follow (loads_model demand.loads) (loads_model d.loads) fs f (sizes demand) (sizes d) demand-kept.0 kept-more).0)
+        (subst (λ ts. PairsOf ts (fs ++ f ∷ [])) (sym pairs)
+        (pairs_follow_lem (pairs_model demand.pairs) (pairs_model d.pairs) fs f (square demand) (square d) low_ports demand-kept.1 between-more).0)
 
-    pairs_both : PairsOf (pairs_along f.road (pairs_model d.pairs) (pairs_model (box_value plan.demand).pairs)) (fs ++ f ∷ []) ×
-        PairsOf (pairs_along f.road (pairs_model (box_value plan.demand).pairs) (pairs_model d.pairs)) fs
-    pairs_both =
-        pairs_follow_lem (pairs_model (box_value plan.demand).pairs) (pairs_model d.pairs) fs f (square (box_value plan.demand)) (square d) low_ports
-        (keep.kept-pairs (pairs_model (box_value plan.demand).pairs) fs plan.pairs_kept) between-more
-
-    pub loads_grown : Kept (loads_along f.road (loads_model d.loads) (loads_model (box_value plan.demand).loads)) (flows_of (gs ++ numbered_model n ∷ []))
-    loads_grown = subst (Kept (loads_along f.road (loads_model d.loads) (loads_model (box_value plan.demand).loads))) (sym more) loads_both.0
-
-    pub pairs_grown : PairsOf (pairs_along f.road (pairs_model d.pairs) (pairs_model (box_value plan.demand).pairs)) (flows_of (gs ++ numbered_model n ∷ []))
-    pairs_grown = subst (PairsOf (pairs_along f.road (pairs_model d.pairs) (pairs_model (box_value plan.demand).pairs))) (sym more) pairs_both.0
-
-    pub loads_back : Kept (loads_along f.road (loads_model (box_value plan.demand).loads) (loads_model d.loads)) fs
-    loads_back = loads_both.1
-
-    pub pairs_back : PairsOf (pairs_along f.road (pairs_model (box_value plan.demand).pairs) (pairs_model d.pairs)) fs
-    pairs_back = pairs_both.1
+    shrinks : (after : Demand) → loads_model after.loads ≡ loads_along f.road (loads_model demand.loads) (loads_model d.loads) →
+        pairs_model after.pairs ≡ pairs_along f.road (pairs_model demand.pairs) (pairs_model d.pairs) → keeps_demand after fs ≡ true
+    shrinks after loads pairs =
+        keep.demand_kept after fs
+        (subst (λ ts. Kept ts fs) (sym loads)
+        (tables_follow (loads_model demand.loads) (loads_model d.loads) fs f (sizes demand) (sizes d) demand-kept.0 kept-more).1)
+        (subst (λ ts. PairsOf ts fs) (sym pairs)
+        (pairs_follow_lem (pairs_model demand.pairs) (pairs_model d.pairs) fs f (square demand) (square d) low_ports demand-kept.1 between-more).1)
 
     -- the tests by the sums are those of the rules
     judged-more :
@@ -238,24 +260,33 @@ module _ (plan : Plan) (n : Numbered) (leading : leads (net_of plan.net) (flow_o
         ∙ admission_laws.judged (net_of net) (loads_model d.loads) (pairs_model d.pairs) (gs ++ numbered_model n ∷ []) (ports-few net) routed sums_more pairs-more
 
     -- what was judged of the flows with it is what the rules say
-    pub judged-tested : (ys zs : List Numbered) → zs ≡ ys → ys ≡ ns ++ n ∷ [] → (r : Option Refusal) →
+    pub tested_told : (ys zs : List Numbered) → zs ≡ ys → ys ≡ ns ++ n ∷ [] → (r : Option Refusal) →
         r ≡ judged (net_of net) net.count net.switches (loads_model d.loads) (pairs_model d.pairs) (map numbered_model zs) →
-        refusal_of (net_of net) (gs ++ numbered_model n ∷ []) ≡ r
-    judged-tested ys zs same is r told =
-        sym judged-more
+        tested (plan_of plan) (numbered_model n) ≡ r
+    tested_told ys zs same is r told =
+        tested_on (plan_of plan) (numbered_model n) leading ∙ sym judged-more
         ∙ ap (judged (net_of net) net.count net.switches (loads_model d.loads) (pairs_model d.pairs)) (sym (ap (map numbered_model) same ∙ pushed ns ys n is))
         ∙ sym told
 
-  pub roads_more : all_roads (net_of net) (flows_of (gs ++ numbered_model n ∷ [])) ≡ true
+  roads_more : all_roads (net_of net) (flows_of (gs ++ numbered_model n ∷ [])) ≡ true
   roads_more = ap (all_roads (net_of net)) more ∙ keep.roads_more (net_of net) fs f plan.on_roads leading
 
--- and popped again
-pub popped : (xs ys : List Numbered) (n : Numbered) (k : ℕ) → ys ≡ xs ++ n ∷ [] → k ≡ length ys → take (k - 1) ys ≡ xs
-popped xs ys n k is size =
-    let long = length_push xs n in
-    let short : length (xs ++ n ∷ []) - 1 ≡ length xs = omega arith in
-    ap (λ j. take (j - 1) ys) (size ∙ ap length is) ∙ ap (take (length (xs ++ n ∷ []) - 1)) is
-    ∙ ap (λ j. take j (xs ++ n ∷ [])) short ∙ take-append_seam xs (n ∷ [])
+  -- what is kept of the flows after a refusal, and after admission
+  module _ (start d after : Demand) (same : start ≡ tried) (grown : Grown start f (Some tt) d) (xs : List Numbered) where
+    pub refused_keeps : xs ≡ ns → loads_model after.loads ≡ loads_along f.road (loads_model demand.loads) (loads_model d.loads) →
+        pairs_model after.pairs ≡ pairs_along f.road (pairs_model demand.pairs) (pairs_model d.pairs) → Keeps net xs demand after
+    refused_keeps back loads pairs =
+        subst (λ ys. Keeps net ys demand after) (sym back)
+        (record { demand_kept = plan.demand_kept; tried_kept = shrinks start d same grown after loads pairs; on_roads = plan.on_roads; fits = plan.fits })
 
-pub tested_on : (p : PlanModel) (g : NumberedModel) → leads p.net g.flow.road ≡ true → tested p g ≡ refusal_of p.net (p.flows ++ g ∷ [])
-tested_on p g leading = cond-true (leads p.net g.flow.road) _ _ leading
+    pub admitted_keeps : xs ≡ ns ++ n ∷ [] → tested (plan_of plan) (numbered_model n) ≡ None →
+        loads_model after.loads ≡ loads_along f.road (loads_model d.loads) (loads_model demand.loads) →
+        pairs_model after.pairs ≡ pairs_along f.road (pairs_model d.pairs) (pairs_model demand.pairs) → Keeps net xs after d
+    admitted_keeps is passed loads pairs =
+        let models = pushed ns xs n is in
+        record {
+          demand_kept = ap (λ hs. keeps_demand after (flows_of hs)) models ∙ ap (keeps_demand after) more ∙ grows start d same grown after loads pairs;
+          tried_kept = ap (λ hs. keeps_demand d (flows_of hs)) models ∙ keep.demand_kept d _ (sums_more start d same grown) (pairs-more start d same grown);
+          on_roads = ap (λ hs. all_roads (net_of net) (flows_of hs)) models ∙ roads_more;
+          fits = ap (passes_all (net_of net)) models ∙ ap is_none (sym (tested_on (plan_of plan) (numbered_model n) leading) ∙ passed);
+        }

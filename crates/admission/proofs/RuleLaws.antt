@@ -5,6 +5,7 @@ use lib.ListN.{length-map}
 use Rattle.std.specs.List.{AllByRecursion as Each}
 use Rattle.std.specs.Option.{option_map}
 use Rattle.std.proofs.ByRecursion.{All-weaker}
+use Rattle.std.proofs.lemmas.Option.{none-some}
 use Rattle.std.proofs.lemmas.List.{take_all}
 use Rattle.std.proofs.lemmas.Bool.{cases_lt, ltb-true, ltb-false, le-ltb, eq-eqb, ne_eqb, or_from, or_left, or_right, and_from}
 use Rattle.flows.specs.Net.{NetModel}
@@ -198,7 +199,7 @@ judged_by_rules net loads pairs gs few sound kept between =
 -- which of two refusals it is
 first-none : (a b : Option Refusal) → first_reason a b ≡ None → (a ≡ None) × (b ≡ None)
 first-none None b e = (refl, e)
-first-none (Some r) b e = let z : ◌≡◌ {A = ℕ} 0 1 = cc in absurd (omega arith)
+first-none (Some r) b e = absurd (none-some r (sym e))
 
 first_some : (a b : Option Refusal) (r : Refusal) → first_reason a b ≡ Some r → (a ≡ Some r) ⊎ ((a ≡ None) × (b ≡ Some r))
 first_some None b r e = inr (refl, e)
@@ -206,17 +207,17 @@ first_some (Some x) b r e = inl e
 
 mapped_none : (v : ℕ → Refusal) (o : Option ℕ) → option_map v o ≡ None → o ≡ None
 mapped_none v None e = refl
-mapped_none v (Some k) e = let z : ◌≡◌ {A = ℕ} 0 1 = cc in absurd (omega arith)
+mapped_none v (Some k) e = absurd (none-some (v k) (sym e))
 
 mapped_some : (v : ℕ → Refusal) (o : Option ℕ) (r : Refusal) → option_map v o ≡ Some r → (k : ℕ) × (o ≡ Some k) × (v k ≡ r)
-mapped_some v None r e = let z : ◌≡◌ {A = ℕ} 0 1 = cc in absurd (omega arith)
+mapped_some v None r e = absurd (none-some r e)
 mapped_some v (Some k) r e = let same : v k ≡ r = cc in (k, refl, same)
 
 crowded-none : (n : ℕ) → crowded n ≡ None → n ≤ 256
 crowded-none n e = by (ltb 256 n) refl e
   where
     by : (b : Bool) → ltb 256 n ≡ b → cond b (Some Crowded) None ≡ None → n ≤ 256
-    by true many e = let z : ◌≡◌ {A = ℕ} 0 1 = cc in absurd (omega arith)
+    by true many e = absurd (none-some Crowded (sym e))
     by false few e = ltb-false 256 n few
 
 crowded-some : (n : ℕ) (r : Refusal) → crowded n ≡ Some r → (256 < n) × (Crowded ≡ r)
@@ -224,7 +225,7 @@ crowded-some n r e = by (ltb 256 n) refl e
   where
     by : (b : Bool) → ltb 256 n ≡ b → cond b (Some Crowded) None ≡ Some r → (256 < n) × (Crowded ≡ r)
     by true many e = let same : Crowded ≡ r = cc in (ltb-true 256 n many, same)
-    by false few e = let z : ◌≡◌ {A = ℕ} 0 1 = cc in absurd (omega arith)
+    by false few e = absurd (none-some r e)
 
 -- a flow is due at its deadline or before
 abbrev Punctual : NetModel → List FlowModel → FlowModel → Type 0
@@ -237,7 +238,7 @@ late-none net fs (g ∷ gs) e = by (ltb g.flow.deadline (due net fs g.flow)) ref
   where
     by : (b : Bool) → ltb g.flow.deadline (due net fs g.flow) ≡ b → cond b (Some g.number) (first_late_of net fs gs) ≡ None →
         (first_late_of net fs gs ≡ None → Each (Punctual net fs) (flows_of gs)) → Each (Punctual net fs) (flows_of (g ∷ gs))
-    by true late got more = let z : ◌≡◌ {A = ℕ} 0 1 = cc in absurd (omega arith)
+    by true late got more = absurd (none-some g.number (sym got))
     by false early got more = (ltb-false g.flow.deadline (due net fs g.flow) early, more got)
 
 none-late : (net : NetModel) (fs : List FlowModel) (gs : List NumberedModel) → Each (Punctual net fs) (flows_of gs) → first_late_of net fs gs ≡ None
@@ -258,7 +259,7 @@ record LateAt (net : NetModel) (fs : List FlowModel) (gs : List NumberedModel) (
 
 late-some : (net : NetModel) (fs : List FlowModel) (gs : List NumberedModel) (k : ℕ) → first_late_of net fs gs ≡ Some k → LateAt net fs gs k
 unfolding first_late_of
-late-some net fs [] k e = let z : ◌≡◌ {A = ℕ} 0 1 = cc in absurd (omega arith)
+late-some net fs [] k e = absurd (none-some k e)
 late-some net fs (g ∷ gs) k e = by (ltb g.flow.deadline (due net fs g.flow)) refl e (late-some net fs gs k)
   where
     by : (b : Bool) → ltb g.flow.deadline (due net fs g.flow) ≡ b → cond b (Some g.number) (first_late_of net fs gs) ≡ Some k →

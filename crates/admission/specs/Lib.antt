@@ -7,3 +7,4 @@ pub mod Sound
 pub mod Models
 pub mod Plans
 pub mod Dues
+pub mod Texts

@@ -5,6 +5,8 @@ use Rattle.std.specs.Option.{is_none}
 use Rattle.flows.specs.Net.{NetModel}
 use Rattle.flows.specs.Flow.{FlowModel}
 use Rattle.flows.specs.Roads.{leads}
+use Rattle.promises.specs.declared.demand.Demand.{Demand}
+use Rattle.promises.specs.Models.{loads_model, pairs_model}
 use Rattle.promises.specs.Loads.{LoadModel, no_load, load_of, pair_of, pair_at}
 use Rattle.admission.specs.Tests.{NumberedModel}
 use Rattle.admission.specs.Rules.{refusal_of}
@@ -25,6 +27,10 @@ keeps_loads loads fs = all_below (λ q. same_load (slice_index_or loads q no_loa
 -- and so are those that are kept between each two
 abbrev pub keeps_pairs : List (List LoadModel) → List FlowModel → Bool
 keeps_pairs pairs fs = all_below (λ p. all_below (λ q. same_load (pair_at pairs p q) (pair_of p q no_load fs)) 64) 64
+
+-- so that a demand is that of the flows
+abbrev pub keeps_demand : Demand → List FlowModel → Bool
+keeps_demand demand fs = keeps_loads (loads_model demand.loads) fs && keeps_pairs (pairs_model demand.pairs) fs
 
 -- all flows have roads through the net
 unfoldable pub all_roads : NetModel → List FlowModel → Bool

@@ -1,14 +1,13 @@
 // Admission of flows, one after the other.
 ghost use Rattle.std.specs.Prelude.{◌≡◌, IfOk};
-ghost use Rattle.flows.specs.Models.{net_of, flow_of};
-ghost use Rattle.flows.specs.Roads.{leads};
+ghost use Rattle.flows.specs.Models.{net_of};
 ghost use Rattle.admission.specs.Plans.{plan_of, empty_plan, Answered};
 ghost use Rattle.admission.specs.Models.{numbered_model};
 
 use super::judge::judge;
 use super::plan::Plan;
 use super::refusal::{NotAdmitted, Numbered, Refusal};
-use flows::flow::Flow;
+use super::tests_of::MOST_FLOWS;
 use flows::net::Net;
 use promises::demand::Demand;
 use std::alloc::{AllocError, Global};
@@ -32,14 +31,15 @@ impl Plan {
     pub fn admit(&mut self, new: Numbered) -> Result<(), NotAdmitted>
         ensures { Answered (plan_of self.old) (numbered_model new) (plan_of self.new) result }
     {
-        if !is_routed(&self.net, &new.flow) {
+        if !self.net.has_road(new.flow.road()) {
             return Err(Refusal::Road.into());
         }
-        if self.flows.len() >= 256 {
+        if self.flows.len() >= MOST_FLOWS {
             return Err(Refusal::Crowded.into());
         }
         self.flows.push(new)?;
-        // With so few flows no sum passes 32 bits, and none is missing.
+        // With so few flows no sum passes 32 bits, and none is missing. By `let`, since what the plan keeps where `ok_or`
+        // and `?` return could be proved only under a name that the check makes up.
         let Some(()) = self.tried.as_mut().add(&new.flow) else {
             return Err(Refusal::Crowded.into());
         };
@@ -56,11 +56,4 @@ impl Plan {
             .follow(self.tried.as_ref(), new.flow.road());
         Ok(())
     }
-}
-
-// Whether the road of a flow leads through a net.
-fn is_routed(net: &Net, flow: &Flow) -> bool
-    ensures { result ≡ leads (net_of net.now) (flow_of flow.now).road }
-{
-    net.has_road(flow.road())
 }

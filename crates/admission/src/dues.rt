@@ -14,11 +14,10 @@ impl Plan {
     pub fn numbered(&self, number: u64) -> Option<Flow>
         ensures { option_map flow_of result ≡ flow_numbered (plan_of self.now).flows number }
     {
-        let found = self
-            .flows
+        self.flows
             .iter()
-            .find(|numbered| numbered.number == number)?;
-        Some(found.flow)
+            .find(|numbered| numbered.number == number)
+            .map(|numbered| numbered.flow)
     }
 
     // What the admitted flow of this number is due up to each port of its road, with all flows of the plan. No port of

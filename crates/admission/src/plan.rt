@@ -1,9 +1,8 @@
 ghost use Rattle.std.specs.Prelude.{◌≡◌, true, map};
 ghost use Rattle.flows.specs.Models.{net_of};
-ghost use Rattle.promises.specs.Models.{loads_model, pairs_model};
 ghost use Rattle.admission.specs.Models.{numbered_model};
 ghost use Rattle.admission.specs.Rules.{flows_of};
-ghost use Rattle.admission.specs.Sound.{keeps_loads, keeps_pairs, all_roads, passes_all};
+ghost use Rattle.admission.specs.Sound.{keeps_demand, all_roads, passes_all};
 
 use super::refusal::Numbered;
 use flows::net::Net;
@@ -17,10 +16,8 @@ pub struct Plan {
     pub flows: Vec<Numbered>,
     pub demand: Box<Demand>,
     pub tried: Box<Demand>,
-    ghost loads_kept: { keeps_loads (loads_model demand.value.loads) (flows_of (map numbered_model flows.items)) ≡ true },
-    ghost pairs_kept: { keeps_pairs (pairs_model demand.value.pairs) (flows_of (map numbered_model flows.items)) ≡ true },
-    ghost tried_loads: { keeps_loads (loads_model tried.value.loads) (flows_of (map numbered_model flows.items)) ≡ true },
-    ghost tried_pairs: { keeps_pairs (pairs_model tried.value.pairs) (flows_of (map numbered_model flows.items)) ≡ true },
+    ghost demand_kept: { keeps_demand demand.value (flows_of (map numbered_model flows.items)) ≡ true },
+    ghost tried_kept: { keeps_demand tried.value (flows_of (map numbered_model flows.items)) ≡ true },
     ghost on_roads: { all_roads (net_of net) (flows_of (map numbered_model flows.items)) ≡ true },
     ghost fits: { passes_all (net_of net) (map numbered_model flows.items) ≡ true },
 }

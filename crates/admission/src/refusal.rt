@@ -1,8 +1,10 @@
-ghost use Rattle.std.specs.Prelude.{◌≡◌, alloc_error};
+ghost use Rattle.std.specs.Prelude.{◌≡◌, Some, alloc_error};
+ghost use Rattle.admission.specs.Texts.{refusal_text};
 ghost use Rattle.admission.specs.declared.refusal.NotAdmitted.TheVariants.{Refused, OutOfMemory};
 
 use flows::flow::Flow;
 use std::alloc::{AllocError, AllocFailed};
+use std::fmt;
 
 // A flow that is admitted or is to be, and its number.
 #[derive(Clone, Copy)]
@@ -26,6 +28,20 @@ pub enum Refusal {
     Memory { switch: u8 },
 }
 
+impl fmt::Display for Refusal {
+    ghost output = { λ x. Some (refusal_text x) };
+
+    fn fmt<W: fmt::Write>(&self, f: &mut fmt::Formatter<W>) -> fmt::Result {
+        match self {
+            Refusal::Road => write!(f, "3"),
+            Refusal::Promised { port } => write!(f, "4: port {port}"),
+            Refusal::Late { flow } => write!(f, "5: flow {flow}"),
+            Refusal::Memory { switch } => write!(f, "6: switch {switch}"),
+            Refusal::Crowded => write!(f, "7"),
+        }
+    }
+}
+
 // Why a flow is not admitted.
 #[derive(Clone, Copy, Debug, PartialEq, Eq)]
 pub enum NotAdmitted {
@@ -44,7 +60,9 @@ impl From<Refusal> for NotAdmitted {
 impl<T: Drop> From<AllocFailed<T>> for NotAdmitted {
     ghost from_gives = { λ _ e. e ≡ OutOfMemory alloc_error };
 
-    fn from(_failed: AllocFailed<T>) -> NotAdmitted {
-        NotAdmitted::OutOfMemory { error: AllocError }
+    fn from(failed: AllocFailed<T>) -> NotAdmitted {
+        NotAdmitted::OutOfMemory {
+            error: failed.into(),
+        }
     }
 }

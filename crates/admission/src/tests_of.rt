@@ -14,8 +14,10 @@ use flows::flow::Flow;
 use flows::net::Net;
 use memory::needs::switch_need;
 use promises::demand::Demand;
+use promises::port::DEN;
 
-const DEN: u64 = 1_000_000;
+// So many flows may be admitted together.
+pub(crate) const MOST_FLOWS: usize = 256;
 
 // Whether a port is promised more than all of itself.
 fn is_promised(demand: &Demand, port: u8) -> bool
@@ -31,15 +33,16 @@ fn is_late(net: &Net, demand: &Demand, flow: &Flow) -> bool
     let Some(dues) = demand.loads.dues(net, flow) else {
         return true;
     };
-    let last = flow.hops as usize - 1;
-    (flow.deadline as u64) < dues[last]
+    // The last of the road's, in a table that may be longer.
+    let last = usize::from(flow.hops) - 1;
+    u64::from(flow.deadline) < dues[last]
 }
 
 // Whether a switch has not enough memory.
 fn is_short(net: &Net, demand: &Demand, switch: u8) -> bool
     ensures { result ≡ is_short (net_of net.now) (loads_model demand.now.loads) (pairs_model demand.now.pairs) net.now.count switch }
 {
-    (net.memory_of(switch) as u128) < switch_need(net, demand, switch)
+    u128::from(net.memory_of(switch)) < switch_need(net, demand, switch)
 }
 
 // Refused for what was found, if anything.
@@ -49,11 +52,11 @@ fn refused_for(found: Option<Refusal>) -> Result<(), Refusal>
     found.map_or(Ok(()), Err)
 }
 
-// Refused where there are more than 256 flows.
+// Refused where there are more than may be admitted together.
 pub(crate) fn flows_are_few(flows: &[Numbered]) -> Result<(), Refusal>
     ensures { result_err result ≡ crowded (length flows.now) }
 {
-    if flows.len() > 256 {
+    if flows.len() > MOST_FLOWS {
         return Err(Refusal::Crowded);
     }
     Ok(())
@@ -83,7 +86,8 @@ pub(crate) fn flows_are_in_time(
     }))
 }
 
-// Refused where a switch has not enough memory: the lowest such switch.
+// Refused where a switch has not enough memory: the lowest such switch. As `ports_suffice`, but one for both would take the
+// test and the refusal as closures, and be longer with its contract than these two lines.
 pub(crate) fn switches_suffice(net: &Net, demand: &Demand) -> Result<(), Refusal>
     ensures { result_err result ≡ option_map Memory (lowest (is_short (net_of net.now) (loads_model demand.now.loads) (pairs_model demand.now.pairs) net.now.count) net.now.switches 0) }
 {

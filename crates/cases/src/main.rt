@@ -55,7 +55,8 @@ fn byte_of(high: u8, low: u8) -> Option<u8>
     Some(digit(high)? * 16 + digit(low)?)
 }
 
-// The bytes that a row of digits spells.
+// The bytes that a row of digits spells. Not by the kit's `hex`, which takes capital letters too, so that what it gives need
+// not be spelled as the case is. The pattern names both digits of a byte, and what it leaves is the odd one.
 fn from_digits(heap: Global, digits: &[u8]) -> anyhow::Result<Vec<u8>>
     ensures { IfOk result (λ v. spelled v.items ≡ digits.now) }
 {

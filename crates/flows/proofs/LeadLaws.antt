@@ -1,7 +1,8 @@
 -- The test of a road is passed by roads, and by nothing else. Assumes nothing.
-use Rattle.std.proofs.Common.{◌≡◌, ℕ, ◌<◌, ◌≤◌, true, false, not, ◌&&◌, eqb, ltb, List, [], ◌∷◌, length, get_or, sym, refl, ap, arith}
+use Rattle.std.proofs.Common.{◌≡◌, ℕ, ◌<◌, ◌≤◌, true, false, not, ◌&&◌, eqb, ltb, List, [], ◌∷◌, length, get_or, sym, refl, ap, ◌∙◌, inl, inr, arith}
 use Rattle.std.specs.List.{AllByRecursion as Each}
 use Rattle.std.proofs.lemmas.Bool.{and_parts, and_from, ltb-true, lt-ltb, eqb-true, eqb-false, eq-eqb, ne_eqb, not-true, not_from_false, or_parts, or_from}
+use Rattle.std.proofs.lemmas.Bool.Decides.{eqb_tells}
 use Rattle.flows.specs.Net.{NetModel, port_at}
 use Rattle.flows.specs.Flow.{Joined, IsRoad}
 use Rattle.flows.specs.FlowFormat.{passes}
@@ -62,8 +63,16 @@ unfolding goes_on
 goes_none net p [] none = refl
 goes_none net p (q ∷ qs) none = absurd (omega arith)
 
+turned : (a b : ℕ) → eqb a b ≡ eqb b a
+turned a b =
+    elim (eqb_tells a b) [
+      | inl same ↦ same.0 ∙ sym (eq-eqb b a (sym same.1))
+      | inr apart ↦ apart.0 ∙ sym (ne_eqb b a (λ e. apart.1 (sym e)))
+    ]
+
 pub goes_first : (net : NetModel) (p next : ℕ) (behind : List ℕ) → 0 < length behind → next ≡ get_or behind 0 next →
-    eqb (port_at net next).switch (port_at net p).ends ≡ goes_on net p behind
+    eqb (port_at net p).ends (port_at net next).switch ≡ goes_on net p behind
 unfolding goes_on
 goes_first net p next [] some is = absurd (omega arith)
-goes_first net p next (q ∷ qs) some is = ap (λ x. eqb (port_at net x).switch (port_at net p).ends) is
+goes_first net p next (q ∷ qs) some is =
+    turned (port_at net p).ends (port_at net next).switch ∙ ap (λ x. eqb (port_at net x).switch (port_at net p).ends) is

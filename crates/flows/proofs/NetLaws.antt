@@ -1,5 +1,5 @@
 -- Nets that are read are sound. Assumes nothing.
-use Rattle.std.proofs.Common.{◌≡◌, ℕ, ◌+◌, ◌<◌, ◌≤◌, max, List, [], ◌∷◌, length, get_or, take, sym, ap, subst, arith}
+use Rattle.std.proofs.Common.{◌≡◌, ℕ, ◌+◌, ◌<◌, ◌≤◌, max, fold, map, List, [], ◌∷◌, length, get_or, take, sym, refl, ap, ◌∙◌, subst, arith}
 use Rattle.std.specs.List.{AllByRecursion as Each}
 use Rattle.std.proofs.lemmas.List.{get_or-take, length-take}
 use Rattle.std.proofs.ByRecursion.{All-get_or}
@@ -96,3 +96,11 @@ places_sound ports count memory switches ports-size memory-size sound = (
     ),
   ),
 )
+
+-- the switches needed, port by port
+pub needed_folds : (least : ℕ) (ports : List Port) → fold max least (map (λ (p : Port). max p.switch p.ends + 1) ports) ≡ needed least ports
+unfolding needed
+needed_folds least [] = refl
+needed_folds least (p ∷ ps) =
+    let one : max least (max p.switch p.ends + 1) ≡ max (max least (p.switch + 1)) (p.ends + 1) = omega arith in
+    ap (λ most. fold max most (map (λ (q : Port). max q.switch q.ends + 1) ps)) one ∙ needed_folds (max (max least (p.switch + 1)) (p.ends + 1)) ps

@@ -1,5 +1,5 @@
 // What is asked of a net.
-ghost use Rattle.std.specs.Prelude.{◌≡◌, ◌≤◌, length, slice_index};
+ghost use Rattle.std.specs.Prelude.{◌≡◌, slice_index};
 ghost use Rattle.flows.specs.Net.{port_at, no_net, together};
 ghost use Rattle.flows.specs.Models.{net_of};
 
@@ -19,11 +19,25 @@ impl Net {
         }
     }
 
+    // The ports that there are.
+    pub fn ports(&self) -> &[Port]
+        ensures { result.now ≡ (net_of self.now).ports }
+    {
+        &self.ports[..usize::from(self.count)]
+    }
+
+    // The memories of the switches that there are.
+    pub fn memories(&self) -> &[u32]
+        ensures { result.now ≡ (net_of self.now).memories }
+    {
+        &self.memory[..usize::from(self.switches)]
+    }
+
     // The port of this number; one of zeros where there is none.
     pub fn port(&self, number: u8) -> Port
         ensures { result ≡ port_at (net_of self.now) number }
     {
-        self.ports[..usize::from(self.count)]
+        self.ports()
             .get(usize::from(number))
             .copied()
             .unwrap_or_default()
@@ -34,7 +48,7 @@ impl Net {
     pub fn memory_of(&self, switch: u8) -> u32
         ensures { result ≡ slice_index (net_of self.now).memories switch }
     {
-        self.memory[..usize::from(self.switches)]
+        self.memories()
             .get(usize::from(switch))
             .copied()
             .unwrap_or_default()
@@ -44,14 +58,9 @@ impl Net {
     pub fn memory_together(&self) -> u64
         ensures { result ≡ together (net_of self.now).memories }
     {
-        sum(&self.memory[..usize::from(self.switches)])
+        self.memories()
+            .iter()
+            .map(|memory| u64::from(*memory))
+            .sum()
     }
-}
-
-// The memories of a table together.
-fn sum(memories: &[u32]) -> u64
-    requires { length memories.now ≤ 255 }
-    ensures { result ≡ together memories.now }
-{
-    memories.iter().map(|memory| u64::from(*memory)).sum()
 }

@@ -1,5 +1,5 @@
 // Flows from bytes.
-ghost use Rattle.std.specs.Prelude.{◌≡◌, ◌≤◌, [], take, length};
+ghost use Rattle.std.specs.Prelude.{◌≡◌, ◌≤◌, [], take, length, OnErr};
 ghost use Rattle.record_bytes.specs.Answers.{cursor, part, verdict};
 ghost use Rattle.flows.specs.FlowFormat.{port_number, road_port, road_from, flow_from, flow_record, flow_bytes};
 ghost use Rattle.record_bytes.specs.Format.{Format};
@@ -14,18 +14,23 @@ use record_bytes::kind::Kind;
 use record_bytes::piece::Piece;
 use record_bytes::reader::Reader;
 
-// The number of a port of a net.
+// All of a port, in millionths of it.
+const RATE_WHOLE: u32 = 1_000_000;
+
+// The number of a port of a net; nothing is taken where it is refused.
 #[tactic(auto, unfolding(crate::specs::FlowFormat::port_number))]
 pub fn read_port_number(reader: &mut Reader, net: &Net) -> Result<u8, Fault>
-    ensures { part (λ p. p) result (cursor reader.new) ≡ port_number (length (net_of net.now).ports) (cursor reader.old) }
+    ensures value { part (λ p. p) result (cursor reader.new) ≡ port_number (length (net_of net.now).ports) (cursor reader.old) }
+    ensures kept { OnErr result (cursor reader.new ≡ cursor reader.old) }
 {
-    let at = reader.at;
-    let Some(port) = reader.number::<u8>() else {
-        return Err(reader.missing());
+    let mut ahead = *reader;
+    let Some(port) = ahead.number::<u8>() else {
+        return Err(ahead.missing());
     };
     if port >= net.count {
-        return Err(Fault::Range { at });
+        return Err(Fault::Range { at: reader.at });
     }
+    *reader = ahead;
     Ok(port)
 }
 
@@ -47,7 +52,7 @@ fn read_road(reader: &mut Reader, net: &Net, hops: u8) -> Result<[u8; 16], Fault
 {
     let mut road = [0; 16];
     // By their number, since each port is judged by those before it in the same table.
-    for i in 0..hops as usize {
+    for i in 0..usize::from(hops) {
         road[i] = read_road_port(reader, net, &road[..i])?;
     }
     Ok(road)
@@ -57,11 +62,11 @@ fn read_road(reader: &mut Reader, net: &Net, hops: u8) -> Result<[u8; 16], Fault
 fn read_parts(reader: &mut Reader, net: &Net) -> Result<Flow, Fault>
     ensures { part flow_of result (cursor reader.new) ≡ flow_from (net_of net.now) (cursor reader.old) }
 {
-    reader.kind(Kind::Flow.byte())?;
+    reader.kind(Kind::Flow.into())?;
     let class = reader.number_in(0, 7)?;
     let longest: u8 = reader.number_in(1, 255)?;
-    let burst = reader.number_in(longest as u32, 65535)?;
-    let rate = reader.number_in(1, 1_000_000)?;
+    let burst = reader.number_in(u32::from(longest), 65535)?;
+    let rate = reader.number_in(1, RATE_WHOLE)?;
     let Some(deadline) = reader.number() else {
         return Err(reader.missing());
     };
@@ -78,7 +83,7 @@ fn read_parts(reader: &mut Reader, net: &Net) -> Result<Flow, Fault>
     })
 }
 
-// A flow of a net.
+// A flow of a net. Why it closes its reader itself stands at `Reader::close`.
 pub fn read_flow(piece: Piece, net: &Net) -> Result<Flow, Fault>
     ensures value { verdict flow_of result ≡ flow_record (net_of net.now) piece.entry.whole piece.entry.bytes.now }
     ensures format { Format (SoundFlow (net_of net.now)) (flow_record (net_of net.now)) flow_bytes }

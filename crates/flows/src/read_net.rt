@@ -57,30 +57,28 @@ fn read_all<T: Part>(reader: &mut Reader, places: &mut [T]) -> Result<(), Fault>
     Ok(())
 }
 
-// How many switches the ports name, counted from 0; at least as many as are asked for anyway. A loop, since each port
-// names two.
+// How many switches the ports name, counted from 0; at least as many as are asked for anyway.
 fn switches_needed(least: u16, ports: &[Port]) -> u16
     ensures { result ≡ needed least ports.now }
 {
-    let mut most = least;
-    for port in ports {
-        most = most.max(port.switch as u16 + 1).max(port.ends as u16 + 1);
-    }
-    most
+    ports
+        .iter()
+        .map(|port| u16::from(port.switch.max(port.ends)) + 1)
+        .fold(least, u16::max)
 }
 
 #[tactic(auto, unfolding(crate::specs::NetFormat::net_from))]
 fn read_parts(reader: &mut Reader, least: u16) -> Result<Net, Fault>
     ensures { part net_of result (cursor reader.new) ≡ net_from least (cursor reader.old) }
 {
-    reader.kind(Kind::Net.byte())?;
+    reader.kind(Kind::Net.into())?;
     let count: u8 = reader.number_in(0, 64)?;
     let mut ports = [Port::default(); 64];
-    read_all(reader, &mut ports[..count as usize])?;
-    let needed = switches_needed(least, &ports[..count as usize]);
-    let switches: u8 = reader.number_in(needed as u32, 255)?;
+    read_all(reader, &mut ports[..usize::from(count)])?;
+    let needed = switches_needed(least, &ports[..usize::from(count)]);
+    let switches: u8 = reader.number_in(u32::from(needed), 255)?;
     let mut memory = [0; 255];
-    read_all(reader, &mut memory[..switches as usize])?;
+    read_all(reader, &mut memory[..usize::from(switches)])?;
     Ok(Net {
         ports,
         count,
@@ -89,7 +87,7 @@ fn read_parts(reader: &mut Reader, least: u16) -> Result<Net, Fault>
     })
 }
 
-// A net of at least so many switches.
+// A net of at least so many switches. Why it closes its reader itself stands at `Reader::close`.
 #[tactic(auto, using(crate::proofs::NetBytes::net_format))]
 pub fn read_net(piece: Piece, least: u16) -> Result<Net, Fault>
     ensures value { verdict net_of result ≡ net_record least piece.entry.whole piece.entry.bytes.now }

@@ -1,7 +1,8 @@
 // The road of a flow through a net.
-ghost use Rattle.std.specs.Prelude.{◌≡◌};
+ghost use Rattle.std.specs.Prelude.{◌≡◌, ◌==◌};
 ghost use Rattle.flows.specs.FlowFormat.{passes, joins};
 ghost use Rattle.flows.specs.Roads.{goes_on, step_fits, leads, LeadsExactly};
+ghost use Rattle.flows.specs.Net.{port_at};
 ghost use Rattle.flows.specs.Models.{net_of, flow_of};
 
 use super::flow::Flow;
@@ -18,8 +19,7 @@ pub(crate) fn on_road(port: u8, road: &[u8]) -> bool
 pub(crate) fn follows(net: &Net, road: &[u8], port: u8) -> bool
     ensures { result ≡ joins (net_of net.now) road.now port }
 {
-    road.last()
-        .is_none_or(|last| net.port(*last).ends == net.port(port).switch)
+    road.last().is_none_or(|last| net.joins(*last, port))
 }
 
 impl Flow {
@@ -40,7 +40,8 @@ impl Flow {
 
 impl Net {
     // Whether a road leads through this net: over ports that it has, none of them twice, each on the switch where the
-    // wire of the one before ends. The law says that the test is passed by roads alone.
+    // wire of the one before ends. The law says that the test is passed by roads alone. By `while let`, since each port is
+    // judged by those behind it: a chain would count places to cut them off.
     #[tactic(auto, unfolding(crate::specs::Roads::leads))]
     pub fn has_road(&self, road: &[u8]) -> bool
         ensures value { result ≡ leads (net_of self.now) road.now }
@@ -68,8 +69,13 @@ impl Net {
     fn goes_on(&self, port: u8, behind: &[u8]) -> bool
         ensures { result ≡ goes_on (net_of self.now) port behind.now }
     {
-        behind
-            .first()
-            .is_none_or(|next| self.port(*next).switch == self.port(port).ends)
+        behind.first().is_none_or(|next| self.joins(port, *next))
+    }
+
+    // Whether a port stands on the switch where the wire of another ends.
+    fn joins(&self, from: u8, to: u8) -> bool
+        ensures { result ≡ ((port_at (net_of self.now) from).ends == (port_at (net_of self.now) to).switch) }
+    {
+        self.port(from).ends == self.port(to).switch
     }
 }

@@ -1,5 +1,5 @@
 // A regulator looks at its first packet only, and lets pass as many as may, one after the other.
-ghost use Rattle.std.specs.Prelude.{◌≡◌, ◌<◌, true, false, List, map, IfSome};
+ghost use Rattle.std.specs.Prelude.{◌≡◌, ◌<◌, true, false, is_some, List, map, IfSome};
 ghost use Rattle.lines.specs.Lines.{Fits, waits};
 ghost use Rattle.levels.specs.Models.{level_model};
 ghost use Rattle.queues.specs.Held.{Holds, size};
@@ -50,34 +50,30 @@ impl Regulator<'_> {
     {
         let first = gate.first(waiting)?;
         let rest = gate.drop_first(waiting)?;
-        self.pass(first, levels, queues, memory).then_some(rest)
+        self.pass(first, levels, queues, memory)?;
+        Some(rest)
     }
 
-    // One packet passes if it may: whether it passed. Where it did not, nothing changes. A bool, as of `Queues::put`.
+    // One packet passes if it may; None, and nothing changes, where it may not.
     fn pass(
         &self,
         packet: Packet,
         levels: &mut [Level],
         queues: &mut Queues,
         memory: &mut [Cell],
-    ) -> bool
-        ensures answer { (ls : List (List Packet)) → Holds queues.old memory.old ls → result ≡ may_go (size memory.old) self.now.classes.now self.now.tick packet (map level_model levels.old) ls }
-        ensures passed { (ls : List (List Packet)) → Holds queues.old memory.old ls → result ≡ true → (map level_model levels.new ≡ spent_by self.now.tick packet (map level_model levels.old)) × Holds queues.new memory.new (queued_by self.now.at_edge self.now.classes.now self.now.tick packet ls) }
-        ensures refused { result ≡ false → (levels.new ≡ levels.old) × (queues.new ≡ queues.old) × (memory.new ≡ memory.old) }
+    ) -> Option<()>
+        ensures answer { (ls : List (List Packet)) → Holds queues.old memory.old ls → is_some result ≡ may_go (size memory.old) self.now.classes.now self.now.tick packet (map level_model levels.old) ls }
+        ensures passed { (ls : List (List Packet)) → Holds queues.old memory.old ls → is_some result ≡ true → (map level_model levels.new ≡ spent_by self.now.tick packet (map level_model levels.old)) × Holds queues.new memory.new (queued_by self.now.at_edge self.now.classes.now self.now.tick packet ls) }
+        ensures refused { is_some result ≡ false → (levels.new ≡ levels.old) × (queues.new ≡ queues.old) × (memory.new ≡ memory.old) }
     {
-        let flow = packet.flow as usize;
-        if flow >= levels.len() || flow >= self.classes.len() {
-            return false;
-        }
-        let level = levels[flow].at(self.tick);
-        if !level.may_pass(packet.length) {
-            return false;
-        }
-        if !queues.put(memory, self.classes[flow], self.mark(packet)) {
-            return false;
+        let flow = usize::from(packet.flow);
+        let class = *self.classes.get(flow)?;
+        let level = levels.get(flow)?.at(self.tick);
+        if !level.may_pass(packet.length) || !queues.put(memory, class, self.mark(packet)) {
+            return None;
         }
         levels[flow] = level.spend(packet.length);
-        true
+        Some(())
     }
 
     // The packet as it goes into the queues: at the edge it is marked with the tick.

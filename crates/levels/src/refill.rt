@@ -8,6 +8,7 @@ ghost use Rattle.levels.specs.Models.{level_model};
 use super::level::Level;
 use super::product::product;
 
+// Millionths in a tick: a rate of so many is all of a port.
 const DEN: u64 = 1_000_000;
 
 // Ticks in which any flow fills up: the largest burst at the lowest rate.
@@ -105,5 +106,5 @@ impl Level {
 fn is_rate(rate: u32) -> bool
     ensures { result ≡ is_rate rate }
 {
-    1 <= rate && rate <= 1_000_000
+    1 <= rate && u64::from(rate) <= DEN
 }

@@ -24,7 +24,7 @@ impl Counted {
     }
 
     // One more packet at the end; None, and the cells stay as they are, where the line is full or does not fit them, or
-    // the ticks would pass 64 bits.
+    // the ticks would pass 64 bits. That the cells hold what is counted is a premise, since they are lent to each call.
     pub fn push(self, cells: &mut [Packet], packet: Packet) -> Option<Counted>
         ensures value { result ≡ counted_push (length cells.old) self packet }
         ensures cells { cells.new ≡ counted_cells cells.old self packet }
@@ -35,7 +35,8 @@ impl Counted {
         Some(Counted { line, ticks })
     }
 
-    // The line without its first packet; None where nothing waits, or the line does not fit the cells.
+    // The line without its first packet; None where nothing waits, or the line does not fit the cells. The premise is that of
+    // `push`.
     pub fn drop_first(self, cells: &[Packet]) -> Option<Counted>
         ensures value { result ≡ counted_drop cells.now self }
         ensures means { Fits cells.now self.line → Counts cells.now self → DropCounts cells.now self result }

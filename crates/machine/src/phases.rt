@@ -25,7 +25,8 @@ pub fn leave(sending: Option<Sending>, tick: u64) -> Leaving
 }
 
 // A port that is not sending takes the first packet of the lowest class that has one, and sends it whole. One that is
-// sending goes on, and nothing changes. The laws are those of the machine.
+// sending goes on, and nothing changes. The laws are those of the machine. That the memory holds the queues is a premise,
+// since it is lent to each call.
 pub fn take(
     sending: Option<Sending>,
     queues: &mut Queues,
@@ -43,7 +44,7 @@ pub fn take(
     begin(queues, memory, tick)
 }
 
-// Takes, where nothing is being sent.
+// Takes, where nothing is being sent. The premise is that of `take`.
 fn begin(queues: &mut Queues, memory: &mut [Cell], tick: u64) -> Option<Sending>
     ensures { (ls : List (List Packet)) → Holds queues.old memory.old ls → (result ≡ takes tick ls) × Holds queues.new memory.new (left_by ls) }
 {
@@ -60,5 +61,5 @@ fn begin(queues: &mut Queues, memory: &mut [Cell], tick: u64) -> Option<Sending>
 fn last_bit(tick: u64, length: u8) -> u64
     ensures { result ≡ last_bit tick length }
 {
-    tick.saturating_add(length as u64)
+    tick.saturating_add(u64::from(length))
 }

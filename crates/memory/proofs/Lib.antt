@@ -1,3 +1,4 @@
 pub mod NeedLaws
 pub mod GrowthLaws
 pub mod FitLaws
+pub mod AddLaws

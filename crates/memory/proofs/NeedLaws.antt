@@ -2,7 +2,7 @@
 use Rattle.std.proofs.Common.{◌≡◌, ℕ, zero, suc, ◌+◌, ◌-◌, ◌*◌, ◌/◌, ◌<◌, ◌≤◌, Bool, true, false, cond, ◌&&◌, eqb, List, [], ◌∷◌, get_or, take, unwrap_or, sym, refl, ap, ◌∙◌, ap₂, inl, inr, zero-add, arith}
 use Rattle.std.specs.List.{AllByRecursion as Each}
 use Rattle.std.proofs.lemmas.List.{take_all}
-use Rattle.std.proofs.lemmas.Bool.{cases_lt, cases_Bool, lt-ltb, le-ltb, eqb-true, or_cases, or_left, or_right, and_parts, and_from, eq-eqb, ne_eqb}
+use Rattle.std.proofs.lemmas.Bool.{false≢true, cases_lt, cases_Bool, lt-ltb, le-ltb, eqb-true, or_cases, or_left, or_right, and_parts, and_from, eq-eqb, ne_eqb}
 use Rattle.flows.specs.Net.{NetModel, port_at}
 use Rattle.flows.specs.Flow.{FlowModel}
 use Rattle.flows.specs.FlowFormat.{passes}
@@ -42,7 +42,7 @@ rates_among p c (f ∷ fs) low =
 pub goes_over : (p q : ℕ) (ps : List ℕ) → goes p q ps ≡ true → passes p ps ≡ true
 unfolding goes passes
 goes_over p q [] e = e
-goes_over p q (x ∷ []) e = let z : ◌≡◌ {A = ℕ} 0 1 = cc in absurd (omega arith)
+goes_over p q (x ∷ []) e = absurd (false≢true e)
 goes_over p q (x ∷ y ∷ ys) e =
     elim (or_cases (eqb x p && eqb y q) (goes p q (y ∷ ys)) e) [
       | inl here ↦ or_left (eqb p x) (passes p (y ∷ ys)) (eq-eqb p x (sym (eqb-true x p (and_parts (eqb x p) (eqb y q) here).0)))

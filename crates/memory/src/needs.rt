@@ -12,8 +12,7 @@ ghost use Rattle.memory.specs.Needs.{ticks_within, class_need, class_needs, regu
 use flows::net::Net;
 use promises::demand::Demand;
 use promises::load::Load;
-
-const DEN: u128 = 1_000_000;
+use promises::port::DEN;
 
 // What may wait in a regulator: bursts, and what the rates bring within a window, rounded up once. The law says that
 // the needs are those of the flows, that one flow more shortens none, and that all fit 64 bits if flows can be admitted.
@@ -23,12 +22,12 @@ fn ticks_within(bursts: u32, rates: u32, window: u64) -> u128
     ensures value { result ≡ ticks_within bursts rates window }
     ensures small { result < 2 ^ 97 }
 {
-    (DEN * bursts as u128 + rates as u128 * window as u128).div_ceil(DEN)
+    let all = u128::from(DEN);
+    (all * u128::from(bursts) + u128::from(rates) * u128::from(window)).div_ceil(all)
 }
 
 // A regulator of one class between two ports. Most have no flow, and need nothing.
 fn class_need(port: &Load, pair: &Load, class: u8) -> u128
-    requires { class < 8 }
     ensures value { result ≡ class_need (load_model port.now) (load_model pair.now) class }
     ensures small { result < 2 ^ 97 }
 {
@@ -40,17 +39,13 @@ fn class_need(port: &Load, pair: &Load, class: u8) -> u128
     ticks_within(asked.bursts, asked.rates, window)
 }
 
-// The regulators of all classes between two ports. As below it is a loop: that the sum of a chain fits is not proved.
+// The regulators of all classes between two ports.
 #[tactic(auto, unfolding(crate::specs::Needs::class_needs))]
 fn pair_need(port: &Load, pair: &Load) -> u128
     ensures value { result ≡ class_needs (load_model port.now) (load_model pair.now) 8 }
     ensures small { result ≤ 8 * 2 ^ 97 }
 {
-    let mut need: u128 = 0;
-    for class in 0..8u8 {
-        need += class_need(port, pair, class);
-    }
-    need
+    (0..8u8).map(|class| class_need(port, pair, class)).sum()
 }
 
 // All regulators before a port.
@@ -59,11 +54,9 @@ fn regulators_need(demand: &Demand, q: u8) -> u128
     ensures value { result ≡ regulator_needs (loads_model demand.now.loads) (pairs_model demand.now.pairs) q 64 }
     ensures small { result ≤ 512 * 2 ^ 97 }
 {
-    let mut need: u128 = 0;
-    for p in 0..64u8 {
-        need += pair_need(&demand.loads.at(p), &demand.pairs.pair(p, q));
-    }
-    need
+    (0..64u8)
+        .map(|p| pair_need(&demand.loads.at(p), &demand.pairs.pair(p, q)))
+        .sum()
 }
 
 // A port: its queues and the regulators before it.
@@ -71,7 +64,7 @@ fn port_need(demand: &Demand, q: u8) -> u128
     ensures value { result ≡ whole_need (loads_model demand.now.loads) (pairs_model demand.now.pairs) q }
     ensures small { result ≤ 513 * 2 ^ 97 }
 {
-    demand.loads.at(q).need() as u128 + regulators_need(demand, q)
+    u128::from(demand.loads.at(q).need()) + regulators_need(demand, q)
 }
 
 // A port, if it stands on this switch.
@@ -90,9 +83,7 @@ fn need_on(net: &Net, demand: &Demand, switch: u8, q: u8) -> u128
 pub fn switch_need(net: &Net, demand: &Demand, switch: u8) -> u128
     ensures { result ≡ switch_needs (net_of net.now) (loads_model demand.now.loads) (pairs_model demand.now.pairs) switch net.now.count }
 {
-    let mut need: u128 = 0;
-    for q in 0..net.count {
-        need += need_on(net, demand, switch, q);
-    }
-    need
+    (0..net.count)
+        .map(|q| need_on(net, demand, switch, q))
+        .sum()
 }

@@ -1,6 +1,6 @@
 -- What is printed, record by record and line by line. Assumes nothing.
-use Rattle.std.proofs.Common.{◌≡◌, ℕ, List, ◌∷◌, ◌++◌, ◌+◌, ◌<◌, length, get_or, drop, add-zero, Some, None, codes, Option, sym, ap, ◌∙◌, append_assoc, append-nil, MatchOption}
-use Rattle.std.proofs.lemmas.List.{at_drop_more, drop-drop, get_or-drop}
+use Rattle.std.proofs.Common.{◌≡◌, ℕ, List, ◌∷◌, ◌++◌, ◌+◌, ◌<◌, ◌≤◌, length, get_or, drop, add-zero, Some, None, codes, Option, sym, ap, ◌∙◌, append_assoc, append-nil, MatchOption}
+use Rattle.std.proofs.lemmas.List.{at_drop_more, at_drop_all, drop-drop, get_or-drop}
 use Rattle.record_bytes.specs.Row.{Extent, finished, found, next_record, row}
 use Rattle.record_bytes.proofs.Row.{row_next, row_end}
 use Rattle.admission.specs.Plans.{PlanModel}
@@ -66,3 +66,8 @@ module _ (text after whole separator road ticks : List ℕ) where
       ∙ ap (λ d. text ++ port_text separator (get_or road i 0) d) (of_ticks ∙ sym (get_or-drop i ticks 0 0 ∙ ap (λ k. get_or ticks k 0) (add-zero i))) in
       let next = at_drop_more (λ ps. text ++ ports_text separator ps (drop i ticks)) road i 0 within in
       rw one (append_assoc text (port_text separator (get_or road i 0) (get_or (drop i ticks) 0 0)) rest ∙ rw (← (drop-drop 1 i ticks)) (sym next ∙ all))
+
+-- the dues of all ports are printed
+pub ports_end : (text whole separator road ticks : List ℕ) (n : ℕ) → length road ≤ n → text ++ ports_text separator (drop n road) (drop n ticks) ≡ whole → text ≡ whole
+unfolding ports_text
+ports_end text whole separator road ticks n all is = sym (append-nil text) ∙ sym (at_drop_all (λ ps. text ++ ports_text separator ps (drop n ticks)) road n all) ∙ is

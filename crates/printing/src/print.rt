@@ -17,7 +17,7 @@ use std::alloc::{AllocError, Global};
 // A part is at least so many bytes long, if it is not the last.
 const PART_BYTES: usize = 65_536;
 
-// Adds a line, with the dues of a plan.
+// Adds a line, with the dues of a plan. Text and plan are in no struct: the one is written and the other read, for a call.
 fn add_line(text: &mut String, plan: &Plan, line: Line) -> Result<(), AllocError>
     ensures { OnOk result (string_bytes text.new ≡ string_bytes text.old ++ printed (plan_of plan.now) line) }
 {

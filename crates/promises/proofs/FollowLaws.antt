@@ -2,16 +2,40 @@
 use Rattle.std.proofs.Common.{◌≡◌, ℕ, ◌<◌, Bool, true, false, cond, ◌&&◌, ◌||◌, eqb, List, [], ◌∷◌, ◌++◌, length, get_or, set, sym, refl, ap, ◌∙◌, arith}
 use Rattle.std.specs.List.{AllByRecursion as Each}
 use Rattle.std.proofs.lemmas.List.{get_or-set_same, get_or-set_other, length-set}
-use Rattle.std.proofs.lemmas.Bool.{eqb-true, eqb-false, cond-false}
+use Rattle.std.proofs.lemmas.Bool.{eqb-true, eqb-false}
+use Rattle.flows.specs.Flow.{FlowModel}
 use Rattle.flows.specs.FlowFormat.{passes}
 use Rattle.promises.specs.Promises.{over, goes}
-use Rattle.promises.specs.Loads.{LoadModel, no_load, load_of, loads_along, pair_of, pair_at, put_pair, pairs_along}
+use Rattle.promises.specs.Loads.{LoadModel, no_load, load_with, load_of, loads_along, pair_of, pair_at, put_pair, pairs_along}
 use Rattle.promises.specs.Laws.{Squared, TablesFollow, PairsFollow}
 use Rattle.promises.proofs.TableLaws.{load_push}
 use Rattle.promises.proofs.PairLaws.{squared_put, put_here, put_beside, put_elsewhere, pair_push}
 
+twice : (b : Bool) (x : LoadModel) → cond b x x ≡ x
+twice true x = refl
+twice false x = refl
+
+-- Where a flow more is asked: that with it, and else that without it.
+either : (b : Bool) (t u without with : LoadModel) (f : FlowModel) → t ≡ without → u ≡ with → with ≡ cond b (load_with without f) without →
+    (cond b u t ≡ with) × (cond b t u ≡ without)
+either true t u without with f kept more is = (more, kept)
+either false t u without with f kept more is = (kept ∙ sym is, more ∙ is)
+
+-- the tables keep their sizes
+pub along_length : (road : List ℕ) (us ts : List LoadModel) → length (loads_along road us ts) ≡ length ts
+unfolding loads_along
+along_length [] us ts = refl
+along_length (p ∷ ps) us ts = along_length ps us (set ts p (get_or us p no_load)) ∙ length-set ts p (get_or us p no_load)
+
+pub along_squared : (road : List ℕ) (us tables : List (List LoadModel)) → Squared tables → Squared (pairs_along road us tables)
+unfolding pairs_along
+along_squared [] us tables squared = squared
+along_squared (p ∷ []) us tables squared = squared
+along_squared (p ∷ q ∷ ps) us tables squared =
+    along_squared (q ∷ ps) us (put_pair tables p q (pair_at us p q)) (squared_put tables p q (pair_at us p q) squared)
+
 -- of a port on the road what the other table says, of another what was said
-along_each : (road : List ℕ) (us ts : List LoadModel) (q : ℕ) → q < length ts →
+pub along_each : (road : List ℕ) (us ts : List LoadModel) (q : ℕ) → q < length ts →
     get_or (loads_along road us ts) q no_load ≡ cond (passes q road) (get_or us q no_load) (get_or ts q no_load)
 unfolding loads_along passes
 along_each [] us ts q less = refl
@@ -19,10 +43,6 @@ along_each (p ∷ ps) us ts q less = along_each ps us next q (omega (arith, leng
   where
     next : List LoadModel
     next = set ts p (get_or us p no_load)
-
-    twice : (b : Bool) (x : LoadModel) → cond b x x ≡ x
-    twice true x = refl
-    twice false x = refl
 
     by : (same : Bool) → eqb q p ≡ same →
         cond (passes q ps) (get_or us q no_load) (get_or next q no_load) ≡ cond (same || passes q ps) (get_or us q no_load) (get_or ts q no_load)
@@ -38,21 +58,19 @@ along_each (p ∷ ps) us ts q less = along_each ps us next q (omega (arith, leng
 pub tables_follow : TablesFollow
 tables_follow ts us fs f long long-too kept more = (
   λ q less.
-      along_each f.road us ts q (omega (arith, long)) ∙ on (over q f) q refl less,
+      along_each f.road us ts q (omega (arith, long)) ∙ (both q less).0,
   λ q less.
-      along_each f.road ts us q (omega (arith, long-too)) ∙ off (over q f) q refl less,
+      along_each f.road ts us q (omega (arith, long-too)) ∙ (both q less).1,
+  along_length f.road us ts ∙ long,
+  along_length f.road ts us ∙ long-too,
 )
   where
-    on : (b : Bool) (q : ℕ) → over q f ≡ b → q < 64 → cond b (get_or us q no_load) (get_or ts q no_load) ≡ load_of q no_load (fs ++ f ∷ [])
-    on true q passing less = more q less
-    on false q apart less = kept q less ∙ sym (load_push q no_load fs f ∙ cond-false (over q f) _ _ apart)
-
-    off : (b : Bool) (q : ℕ) → over q f ≡ b → q < 64 → cond b (get_or ts q no_load) (get_or us q no_load) ≡ load_of q no_load fs
-    off true q passing less = kept q less
-    off false q apart less = more q less ∙ load_push q no_load fs f ∙ cond-false (over q f) _ _ apart
+    both : (q : ℕ) → q < 64 → (cond (over q f) (get_or us q no_load) (get_or ts q no_load) ≡ load_of q no_load (fs ++ f ∷ [])) ×
+        (cond (over q f) (get_or ts q no_load) (get_or us q no_load) ≡ load_of q no_load fs)
+    both q less = either (over q f) _ _ _ _ f (kept q less) (more q less) (load_push q no_load fs f)
 
 -- and so between each two ports
-pairs_along_each : (road : List ℕ) (us tables : List (List LoadModel)) (p q : ℕ) → Squared tables → Each (λ r. r < 64) road →
+pub pairs_along_each : (road : List ℕ) (us tables : List (List LoadModel)) (p q : ℕ) → Squared tables → Each (λ r. r < 64) road →
     pair_at (pairs_along road us tables) p q ≡ cond (goes p q road) (pair_at us p q) (pair_at tables p q)
 unfolding pairs_along goes
 pairs_along_each [] us tables p q squared known = refl
@@ -62,10 +80,6 @@ pairs_along_each (a ∷ b ∷ ps) us tables p q squared known =
   where
     next : List (List LoadModel)
     next = put_pair tables a b (pair_at us a b)
-
-    twice : (b : Bool) (x : LoadModel) → cond b x x ≡ x
-    twice true x = refl
-    twice false x = refl
 
     by : (x y : Bool) → eqb a p ≡ x → eqb b q ≡ y →
         cond (goes p q (b ∷ ps)) (pair_at us p q) (pair_at next p q) ≡ cond ((x && y) || goes p q (b ∷ ps)) (pair_at us p q) (pair_at tables p q)
@@ -88,15 +102,13 @@ pairs_along_each (a ∷ b ∷ ps) us tables p q squared known =
 pub pairs_follow_lem : PairsFollow
 pairs_follow_lem tables us fs f squared squared-too known kept more = (
   λ p q first second.
-      pairs_along_each f.road us tables p q squared known ∙ on (goes p q f.road) p q refl first second,
+      pairs_along_each f.road us tables p q squared known ∙ (both p q first second).0,
   λ p q first second.
-      pairs_along_each f.road tables us p q squared-too known ∙ off (goes p q f.road) p q refl first second,
+      pairs_along_each f.road tables us p q squared-too known ∙ (both p q first second).1,
+  along_squared f.road us tables squared,
+  along_squared f.road tables us squared-too,
 )
   where
-    on : (b : Bool) (p q : ℕ) → goes p q f.road ≡ b → p < 64 → q < 64 → cond b (pair_at us p q) (pair_at tables p q) ≡ pair_of p q no_load (fs ++ f ∷ [])
-    on true p q going first second = more p q first second
-    on false p q apart first second = kept p q first second ∙ sym (pair_push p q no_load fs f ∙ cond-false (goes p q f.road) _ _ apart)
-
-    off : (b : Bool) (p q : ℕ) → goes p q f.road ≡ b → p < 64 → q < 64 → cond b (pair_at tables p q) (pair_at us p q) ≡ pair_of p q no_load fs
-    off true p q going first second = kept p q first second
-    off false p q apart first second = more p q first second ∙ pair_push p q no_load fs f ∙ cond-false (goes p q f.road) _ _ apart
+    both : (p q : ℕ) → p < 64 → q < 64 → (cond (goes p q f.road) (pair_at us p q) (pair_at tables p q) ≡ pair_of p q no_load (fs ++ f ∷ [])) ×
+        (cond (goes p q f.road) (pair_at tables p q) (pair_at us p q) ≡ pair_of p q no_load fs)
+    both p q first second = either (goes p q f.road) _ _ _ _ f (kept p q first second) (more p q first second) (pair_push p q no_load fs f)

@@ -1,21 +1,48 @@
 -- A flow more along a road, from each port to the next. Assumes nothing.
 use Rattle.std.proofs.Common.{◌≡◌, ℕ, ◌<◌, ◌≤◌, Bool, true, false, cond, ◌&&◌, ◌||◌, eqb, ◌⊎◌, List, [], ◌∷◌, ◌++◌, length, get_or, take, drop, set, Some, None, sym, refl, ap, ◌∙◌, subst, inl, inr, arith}
 use Rattle.std.proofs.Math.Bool.{or-false}
+use Rattle.std.proofs.lemmas.Option.{none-some}
 use Rattle.std.proofs.lemmas.List.{get_or-set_same, get_or-set_other, length-set}
 use Rattle.flows.specs.Flow.{FlowModel}
 use Rattle.promises.specs.Loads.{LoadModel, no_load, load_with, load_fits, pair_of, pair_at, put_pair, pairs_with, pairs_until, pairs_along}
 use Rattle.promises.specs.Promises.{goes}
 use Rattle.promises.specs.Laws.{Squared, PairsKept}
+use Rattle.promises.proofs.TableLaws.{one_full, one_more}
 use Rattle.flows.specs.Flow.{Once}
 use Rattle.std.specs.List.{AllByRecursion as Each}
 use Rattle.std.proofs.lemmas.Bool.{or_from, and_left, ne_eqb, eqb-true, eqb-false, cases_eq, cond-false}
 
 -- the two ports of a window at the front of a road, and the rest
-pub window_front : (road hop : List ℕ) → 2 ≤ length road → hop ≡ take 2 road →
+front : (road hop : List ℕ) → 2 ≤ length road → hop ≡ take 2 road →
     (road ≡ get_or hop 0 0 ∷ get_or hop 1 0 ∷ drop 2 road) × (drop 1 road ≡ get_or hop 1 0 ∷ drop 2 road)
-window_front [] hop long is = absurd (omega arith)
-window_front (p ∷ []) hop long is = absurd (omega arith)
-window_front (p ∷ q ∷ ps) hop long is = rw is (refl, refl)
+front [] hop long is = absurd (omega arith)
+front (p ∷ []) hop long is = absurd (omega arith)
+front (p ∷ q ∷ ps) hop long is = rw is (refl, refl)
+
+-- the same as a step of an iterator over windows of two tells it
+pub window_front : (road hop rest : List ℕ) (size : ℕ) → size ≡ 2 → (size ≤ length road) × (hop ≡ take size road) × (rest ≡ drop 1 road) × (length hop ≡ size) →
+    (road ≡ get_or hop 0 0 ∷ get_or hop 1 0 ∷ drop 2 road) × (rest ≡ get_or hop 1 0 ∷ drop 2 road)
+window_front road hop rest size two (long, is, next, sized) =
+    let found = front road hop (omega arith) (is ∙ ap (λ n. take n road) two) in
+    (found.0, next ∙ found.1)
+
+-- A flow more from one port of a road to the next, and from those behind: where it does not fit, and where it does.
+module _ (f : FlowModel) (tables : List (List LoadModel)) (p q : ℕ) (ps : List ℕ) (t : LoadModel) (is : t ≡ pair_at tables p q) where
+  pub pairs_full : None ≡ cond (load_fits t f) (Some (load_with t f)) None → (None ≡ pairs_with f (p ∷ q ∷ ps) tables) × (tables ≡ pairs_until f (p ∷ q ∷ ps) tables)
+  unfolding pairs_with pairs_until
+  pairs_full none = (
+    one_full f t _ (λ u. pairs_with f (q ∷ ps) (put_pair tables p q u)) None is none,
+    one_full f t _ (λ u. pairs_until f (q ∷ ps) (put_pair tables p q u)) tables is none,
+  )
+
+  pub pairs_more : (u : LoadModel) → Some u ≡ cond (load_fits t f) (Some (load_with t f)) None →
+      (pairs_with f (q ∷ ps) (put_pair tables p q u) ≡ pairs_with f (p ∷ q ∷ ps) tables) ×
+      (pairs_until f (q ∷ ps) (put_pair tables p q u) ≡ pairs_until f (p ∷ q ∷ ps) tables)
+  unfolding pairs_with pairs_until
+  pairs_more u some = (
+    one_more f t _ (λ u. pairs_with f (q ∷ ps) (put_pair tables p q u)) None is u some,
+    one_more f t _ (λ u. pairs_until f (q ∷ ps) (put_pair tables p q u)) tables is u some,
+  )
 
 -- at most one port is left
 pub one_left : (f : FlowModel) (ps : List ℕ) (tables : List (List LoadModel)) → length ps ≤ 1 →
@@ -121,7 +148,7 @@ pairs-places f (a ∷ b ∷ ps) tables us squared once known e =
         Squared us × ((p q : ℕ) → Goal p q (eqb a p) (eqb b q))
     by false fits more =
         let step : pairs_with f (a ∷ b ∷ ps) tables ≡ None = rw (fits, pairs_with) refl in
-        let z : ◌≡◌ {A = ℕ} 0 1 = cc in absurd (omega arith)
+        absurd (none-some us (sym step ∙ e))
     by true fits more =
         let step : pairs_with f (a ∷ b ∷ ps) tables ≡ pairs_with f (b ∷ ps) next = rw (fits, pairs_with) refl in
         let got = more (sym step ∙ e) in

@@ -14,7 +14,7 @@ use Rattle.flows.specs.FlowFormat.{passes}
 use Rattle.promises.proofs.TableLaws.{table_kept}
 use Rattle.promises.proofs.PairLaws.{pairs-kept}
 use Rattle.promises.proofs.FollowLaws.{tables_follow, pairs_follow_lem}
-use Rattle.promises.proofs.UntilLaws.{until_full, pairs_until_full}
+use Rattle.promises.proofs.UntilLaws.{until_full, pairs_until_full, refusal_undone, pairs_undone_lem}
 use Rattle.promises.proofs.WindowLaws.{window-kept}
 use Rattle.promises.proofs.FitLaws.{sums_fit_lem, pairs_fit_lem}
 use Rattle.promises.proofs.SumLaws.{sized_none, kept-bursts, kept-rates, kept-longest}
@@ -133,4 +133,4 @@ unfolding bursts before long due_over goes windowed passes
 worked-examples = (refl, (refl, (refl, (refl, (refl, (refl, (refl, (refl, (refl, (refl, (refl, tt)))))))))))
 
 pub promise_laws : PromiseLaws
-promise_laws = record { kept = sums_kept; table = table_kept; dues = dues-kept; last = last_is_due; pairs = pairs-kept; follow = tables_follow; pairs_follow = pairs_follow_lem; until = until_full; pairs_until = pairs_until_full; sums_fit = sums_fit_lem; pairs_fit = pairs_fit_lem; window = window-kept; grows = never-shorter; covers = port-covers; examples = worked-examples }
+promise_laws = record { kept = sums_kept; table = table_kept; dues = dues-kept; last = last_is_due; pairs = pairs-kept; follow = tables_follow; pairs_follow = pairs_follow_lem; until = until_full; pairs_until = pairs_until_full; undone = refusal_undone; pairs_undone = pairs_undone_lem; sums_fit = sums_fit_lem; pairs_fit = pairs_fit_lem; window = window-kept; grows = never-shorter; covers = port-covers; examples = worked-examples }

@@ -1,10 +1,16 @@
 -- Sums kept in a table are the sums over the flows. Assumes nothing.
-use Rattle.std.proofs.Common.{◌≡◌, ℕ, zero, suc, ◌+◌, ◌<◌, max, Bool, true, false, cond, ◌&&◌, ltb, leb, List, [], ◌∷◌, length, get_or, take, drop, set, map, fold, replicate, sum, sym, refl, ap, ◌∙◌, inl, inr, add-zero, add_assoc, zero-add, arith, length-set}
+use Rattle.std.proofs.Common.{◌≡◌, ℕ, zero, suc, ◌+◌, ◌<◌, ◌≤◌, max, Bool, true, false, cond, ◌&&◌, ltb, leb, List, [], ◌∷◌, length, get_or, take, drop, set, map, fold, replicate, sum, sym, refl, ap, ◌∙◌, inl, inr, add-zero, add_assoc, zero-add, arith, length-set, Iter}
 use Rattle.std.proofs.Math.Nat.{zero-max}
 use Rattle.std.specs.List.{AllByRecursion as Each}
+use Rattle.std.specs.Slice.Iter.{iter_rest}
+use Rattle.std.proofs.iter.Yields.{fronts}
+use Rattle.std.proofs.lemmas.List.{take-map}
 use Rattle.std.proofs.lemmas.List.Recursion.{is_sum_by}
+use Rattle.std.proofs.lemmas.Iterator.{YieldsList-from_slice}
+use Rattle.std.proofs.lemmas.Iterator.Adapters.{YieldsAtMost, at_most_from_yields_List}
 use Rattle.std.proofs.lemmas.Bool.{cases_lt, lt-ltb, le-ltb, le-leb, lt-leb}
 use Rattle.flows.specs.Flow.{FlowModel}
+use Rattle.promises.specs.declared.load.Asked.{Asked}
 use Rattle.promises.specs.Promises.{over, bursts, before, long}
 use Rattle.promises.specs.Loads.{LoadModel, no_load, load_with, load_of, total, largest}
 use Rattle.promises.specs.Laws.{Classed}
@@ -12,6 +18,14 @@ use Rattle.promises.specs.Laws.{Classed}
 pub total_is_sum : (xs : List ℕ) → total xs ≡ sum xs
 unfolding total
 total_is_sum = is_sum_by total (λ x. x) refl (λ _ _. refl)
+
+-- a field of the first n classes, added up by a chain and by the definition
+pub fields_total : (h : Asked → ℕ) (n : ℕ) (classes : List Asked) → sum (map h (take n classes)) ≡ total (take n (map h classes))
+fields_total h n classes = sym (total_is_sum _) ∙ ap total (sym (take-map h n classes))
+
+-- a chain over so many classes at most
+pub few_classes : {s : Iter Asked} (n : ℕ) (classes : List Asked) → iter_rest s ≡ classes → length classes ≤ n → YieldsAtMost fronts s n
+few_classes n classes seen few = at_most_from_yields_List (YieldsList-from_slice classes seen) few
 
 -- nothing is asked at any place of an empty table
 pub zeros : (n c : ℕ) → ◌≡◌ {A = ℕ} (get_or (replicate n 0) c 0) 0

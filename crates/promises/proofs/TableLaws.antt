@@ -1,14 +1,14 @@
 -- A flow more along a road, port by port. Assumes nothing.
-use Rattle.std.proofs.Common.{◌≡◌, ℕ, ◌<◌, Bool, true, false, cond, ◌||◌, eqb, List, [], ◌∷◌, ◌++◌, length, get_or, set, Some, None, sym, refl, ap, ◌∙◌, subst, inl, inr, arith}
+use Rattle.std.proofs.Common.{◌≡◌, ℕ, ◌+◌, ◌<◌, Bool, true, false, cond, ◌||◌, eqb, List, [], ◌∷◌, ◌++◌, length, get_or, drop, set, Some, None, sym, refl, ap, ◌∙◌, subst, inl, inr}
 use Rattle.flows.specs.Flow.{FlowModel}
-use Rattle.promises.specs.Loads.{LoadModel, no_load, load_with, load_of, load_fits, loads_with}
+use Rattle.promises.specs.Loads.{LoadModel, no_load, load_with, load_of, load_fits, loads_with, loads_until}
 use Rattle.promises.specs.Promises.{over}
 use Rattle.promises.specs.Laws.{TableKept}
 use Rattle.flows.specs.Flow.{Once}
 use Rattle.flows.specs.FlowFormat.{passes}
 use Rattle.std.specs.List.{AllByRecursion as Each}
-use Rattle.std.proofs.lemmas.List.{get_or-set_same, get_or-set_other, length-set}
-use Rattle.std.proofs.lemmas.Option.{cond_some, gets, slice_get-map}
+use Rattle.std.proofs.lemmas.List.{get_or-set_same, get_or-set_other, length-set, at_drop_more}
+use Rattle.std.proofs.lemmas.Option.{cond_some, none-some, gets, slice_get-map}
 use Rattle.std.proofs.lemmas.Grind.{common_steps}
 use Rattle.std.proofs.ByRecursion.{All-weaker}
 use Rattle.std.proofs.lemmas.Bool.{or_from, ne_eqb, eqb-true, eqb-false, cases_Bool, cond-true, cond-false}
@@ -27,8 +27,26 @@ module _ {A : Type 0} (f : FlowModel) (t here : LoadModel) (next : LoadModel →
   one_full got = by (load_fits t f) refl got ∙ ap (λ x. cond (load_fits x f) (next (load_with x f)) stop) is
     where
       by : (b : Bool) → load_fits t f ≡ b → None ≡ cond b (Some (load_with t f)) None → stop ≡ cond (load_fits t f) (next (load_with t f)) stop
-      by true fits e = let z : ◌≡◌ {A = ℕ} 0 1 = cc in absurd (omega arith)
+      by true fits e = absurd (none-some _ e)
       by false fits e = sym (cond-false (load_fits t f) (next (load_with t f)) stop fits)
+
+-- A flow more at one port of a road, and at those behind it: where it does not fit, and where it does.
+module _ (f : FlowModel) (ts : List LoadModel) (road : List ℕ) (i : ℕ) (more : i < length road) (t : LoadModel) (is : t ≡ get_or ts (get_or road i 0) no_load) where
+  pub loads_full : None ≡ cond (load_fits t f) (Some (load_with t f)) None → (None ≡ loads_with f (drop i road) ts) × (ts ≡ loads_until f (drop i road) ts)
+  unfolding loads_with loads_until
+  loads_full none = (
+    one_full f t _ (λ u. loads_with f (drop (i + 1) road) (set ts (get_or road i 0) u)) None is none ∙ sym (at_drop_more (λ ps. loads_with f ps ts) road i 0 more),
+    one_full f t _ (λ u. loads_until f (drop (i + 1) road) (set ts (get_or road i 0) u)) ts is none ∙ sym (at_drop_more (λ ps. loads_until f ps ts) road i 0 more),
+  )
+
+  pub loads_more : (u : LoadModel) → Some u ≡ cond (load_fits t f) (Some (load_with t f)) None →
+      (loads_with f (drop (i + 1) road) (set ts (get_or road i 0) u) ≡ loads_with f (drop i road) ts) ×
+      (loads_until f (drop (i + 1) road) (set ts (get_or road i 0) u) ≡ loads_until f (drop i road) ts)
+  unfolding loads_with loads_until
+  loads_more u some = (
+    one_more f t _ (λ u. loads_with f (drop (i + 1) road) (set ts (get_or road i 0) u)) None is u some ∙ sym (at_drop_more (λ ps. loads_with f ps ts) road i 0 more),
+    one_more f t _ (λ u. loads_until f (drop (i + 1) road) (set ts (get_or road i 0) u)) ts is u some ∙ sym (at_drop_more (λ ps. loads_until f ps ts) road i 0 more),
+  )
 
 -- the last flow of a list is asked for last
 pub load_push : (p : ℕ) (t : LoadModel) (fs : List FlowModel) (f : FlowModel) →
@@ -78,7 +96,7 @@ along_places f (p ∷ ps) ts us once known e q =
         (loads_with f ps next ≡ Some us → get_or us q no_load ≡ cond (passes q ps) (load_with (get_or next q no_load) f) (get_or next q no_load)) → Goal (eqb q p)
     by false fits more =
         let step : loads_with f (p ∷ ps) ts ≡ None = rw (fits, loads_with) refl in
-        let z : ◌≡◌ {A = ℕ} 0 1 = cc in absurd (omega arith)
+        absurd (none-some us (sym step ∙ e))
     by true fits more =
         let step : loads_with f (p ∷ ps) ts ≡ loads_with f ps next = rw (fits, loads_with) refl in
         let got = more (sym step ∙ e) in

@@ -62,17 +62,20 @@ PairsKept =
     (tables us : List (List LoadModel)) (fs : List FlowModel) (f : FlowModel) → Squared tables → Once f.road → Each (λ p. p < 64) f.road →
     PairsOf tables fs → pairs_with f f.road tables ≡ Some us → Squared us × PairsOf us (fs ++ f ∷ [])
 
--- Tables of flows, and of these with one more: each becomes the other along the road of that flow.
+-- Tables of flows, and of these with one more: along the road of that flow each becomes the other, of each port below 64,
+-- and keeps its length.
 abbrev pub TablesFollow : Type 0
 TablesFollow =
     (ts us : List LoadModel) (fs : List FlowModel) (f : FlowModel) → length ts ≡ 64 → length us ≡ 64 →
-    Kept ts fs → Kept us (fs ++ f ∷ []) → Kept (loads_along f.road us ts) (fs ++ f ∷ []) × Kept (loads_along f.road ts us) fs
+    Kept ts fs → Kept us (fs ++ f ∷ []) → Kept (loads_along f.road us ts) (fs ++ f ∷ []) × Kept (loads_along f.road ts us) fs ×
+    (length (loads_along f.road us ts) ≡ 64) × (length (loads_along f.road ts us) ≡ 64)
 
 -- and so do those between each two ports
 abbrev pub PairsFollow : Type 0
 PairsFollow =
     (tables us : List (List LoadModel)) (fs : List FlowModel) (f : FlowModel) → Squared tables → Squared us → Each (λ p. p < 64) f.road →
-    PairsOf tables fs → PairsOf us (fs ++ f ∷ []) → PairsOf (pairs_along f.road us tables) (fs ++ f ∷ []) × PairsOf (pairs_along f.road tables us) fs
+    PairsOf tables fs → PairsOf us (fs ++ f ∷ []) → PairsOf (pairs_along f.road us tables) (fs ++ f ∷ []) × PairsOf (pairs_along f.road tables us) fs ×
+    Squared (pairs_along f.road us tables) × Squared (pairs_along f.road tables us)
 
 -- where not all sums of a road fit, its first ports have the flow, as many as fit
 abbrev pub UntilFull : Type 0
@@ -85,6 +88,15 @@ abbrev pub PairsUntilFull : Type 0
 PairsUntilFull =
     (f : FlowModel) (road : List ℕ) (tables : List (List LoadModel)) → (n : ℕ) × (pairs_with f (take n road) tables ≡ Some (pairs_until f road tables)) ×
     ((n ≡ length road) ⊎ (pairs_with f (take (n + 1) road) tables ≡ None))
+
+-- and is gone again when the table follows what it was along that road
+abbrev pub RefusalUndone : Type 0
+RefusalUndone = (f : FlowModel) (road : List ℕ) (ts : List LoadModel) → loads_along road ts (loads_until f road ts) ≡ ts
+
+abbrev pub PairsUndone : Type 0
+PairsUndone =
+    (f : FlowModel) (road : List ℕ) (tables : List (List LoadModel)) → Squared tables → Each (λ p. p < 64) road →
+    pairs_along road tables (pairs_until f road tables) ≡ tables
 
 -- with at most 255 flows asked for, no sum at a port passes 32 bits by a flow more
 abbrev pub SumsFit : Type 0
@@ -126,6 +138,8 @@ pub record PromiseLaws : Type 0 where
   pub pairs_follow : PairsFollow
   pub until : UntilFull
   pub pairs_until : PairsUntilFull
+  pub undone : RefusalUndone
+  pub pairs_undone : PairsUndone
   pub sums_fit : SumsFit
   pub pairs_fit : PairsFit
   pub window : WindowKept

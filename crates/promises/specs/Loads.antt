@@ -52,6 +52,10 @@ load_promise t c =
     (Some ((load_long t c + load_bursts t c) * den / (den - load_before t c)))
     None
 
+-- the longest that 32-bit sums of eight classes and a packet of a byte's length can give, with a millionth of the port left
+abbrev pub longest_promise : ℕ
+longest_promise = 34359738615000000
+
 -- a flow more still fits 32 bits
 abbrev pub load_fits : LoadModel → FlowModel → Bool
 load_fits t f =

@@ -11,6 +11,8 @@ use super::pairs::Pairs;
 use super::per_port::PerPort;
 use flows::flow::Flow;
 
+// Method for method as a table of one index, `Loads`, but over definitions of two: one type for both would be told at which
+// of them it stands by a trait that is longer than the methods.
 impl Pairs {
     // Nothing goes on from any port.
     pub fn none() -> Self
@@ -21,7 +23,16 @@ impl Pairs {
         }
     }
 
-    // One flow more from each port of its road to the next, as at the ports themselves.
+    // One flow more from each port of its road to the next; None where a sum would pass 32 bits.
+    pub fn with(&self, flow: &Flow) -> Option<Pairs>
+        ensures { option_map pairs_model result ≡ pairs_with (flow_of flow.now) (flow_of flow.now).road (pairs_model self.now) }
+    {
+        let mut pairs = *self;
+        pairs.add(flow)?;
+        Some(pairs)
+    }
+
+    // The same in place, as of loads. Nothing but that it does not fit can be said, as of `checked_add`.
     pub fn add(&mut self, flow: &Flow) -> Option<()>
         ensures left { pairs_model self.new ≡ pairs_until (flow_of flow.now) (flow_of flow.now).road (pairs_model self.old) }
         ensures told { option_map (λ _. pairs_model self.new) result ≡ pairs_with (flow_of flow.now) (flow_of flow.now).road (pairs_model self.old) }
@@ -57,7 +68,7 @@ impl Pairs {
     fn put(&mut self, p: u8, q: u8, load: Load)
         ensures { pairs_model self.new ≡ put_pair (pairs_model self.old) p q (load_model load) }
     {
-        let place = p as usize;
+        let place = usize::from(p);
         if place < 64 {
             let rows = &mut self.from.each;
             rows[place].ports.put(q, load);

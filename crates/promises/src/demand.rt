@@ -28,8 +28,8 @@ impl Demand {
         }
     }
 
-    // One flow more along its road, in place, since a copy is 300 KB. None where a sum would pass 32 bits: then those
-    // before it have the flow already.
+    // One flow more along its road, in place, since a copy is some 400 KB. None where a sum would pass 32 bits: then those
+    // before it have the flow already. Nothing but that it does not fit can be said, as of `checked_add`.
     pub fn add(&mut self, flow: &Flow) -> Option<()>
         ensures { Grown self.old (flow_of flow.now) result self.new }
     {

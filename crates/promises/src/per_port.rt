@@ -34,14 +34,14 @@ impl<T: Copy> PerPort<T> {
     pub fn get(&self, port: u8) -> Option<&T>
         ensures { option_map (λ one. one.now) result ≡ slice_get self.now.each port }
     {
-        self.each.get(port as usize)
+        self.each.get(usize::from(port))
     }
 
     // Past the last port nothing changes. A test and an index, since nothing is known of what `get_mut` of a slice lends.
     pub fn put(&mut self, port: u8, one: T)
         ensures { self.new.each ≡ slice_set self.old.each port one }
     {
-        let place = port as usize;
+        let place = usize::from(port);
         if place < 64 {
             self.each[place] = one;
         }

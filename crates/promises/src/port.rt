@@ -2,14 +2,15 @@
 ghost use Rattle.std.specs.Prelude.{◌≡◌, ◌+◌, ◌-◌, ◌*◌, ◌/◌, ◌<◌, ◌≤◌, ◌&&◌, IfSome, if◌then◌else◌, Some, None, max, nat_le, nat_lt, slice_index};
 ghost use Rattle.std.specs.Option.{option_map};
 ghost use Rattle.flows.specs.Models.{flow_of};
-ghost use Rattle.promises.specs.Loads.{no_load, load_with, load_bursts, load_before, load_long, load_promise, load_fits, total};
+ghost use Rattle.promises.specs.Loads.{no_load, load_with, load_bursts, load_before, load_long, load_promise, load_fits, longest_promise, total};
 ghost use Rattle.promises.specs.Laws.{PromiseLaws};
 ghost use Rattle.promises.specs.Models.{load_model};
 
 use super::load::{Asked, Load};
 use flows::flow::Flow;
 
-const DEN: u64 = 1_000_000;
+// All of a port, in millionths.
+pub const DEN: u64 = 1_000_000;
 
 impl Load {
     // Nothing is asked.
@@ -24,9 +25,10 @@ impl Load {
         ensures bursts { result.bursts ≡ slice_index (load_model self.now).bursts class }
         ensures rates { result.rates ≡ slice_index (load_model self.now).rates class }
         ensures longest { result.longest ≡ slice_index (load_model self.now).longest class }
+        ensures none { 7 < class → (result.bursts ≡ 0) × (result.rates ≡ 0) }
     {
         self.classes
-            .get(class as usize)
+            .get(usize::from(class))
             .copied()
             .unwrap_or_default()
     }
@@ -37,19 +39,20 @@ impl Load {
         ensures value { result ≡ load_bursts (load_model self.now) class }
         ensures small { result ≤ 34359738360 }
     {
-        self.classes[..=class as usize]
+        self.classes[..=usize::from(class)]
             .iter()
             .map(|asked| u64::from(asked.bursts))
             .sum()
     }
 
-    // Rates of classes below this one. As a chain of its own: one for both sums would be told its field and its end.
+    // Rates of classes below this one. A chain of its own: one for both sums would take the field as a closure, and say in
+    // its contract what any such closure reads, which is longer than the chain.
     fn rates_below(&self, class: u8) -> u64
         requires { class ≤ 8 }
         ensures value { result ≡ load_before (load_model self.now) class }
         ensures small { result ≤ 34359738360 }
     {
-        self.classes[..class as usize]
+        self.classes[..usize::from(class)]
             .iter()
             .map(|asked| u64::from(asked.rates))
             .sum()
@@ -60,7 +63,7 @@ impl Load {
         requires { class ≤ 7 }
         ensures { result ≡ load_long (load_model self.now) class }
     {
-        let next = class as usize + 1;
+        let next = usize::from(class) + 1;
         self.classes[next..]
             .iter()
             .map(|asked| asked.longest)
@@ -73,7 +76,7 @@ impl Load {
     #[tactic(auto, using(crate::proofs::PromiseLaws::promise_laws))]
     pub fn promise(&self, class: u8) -> Option<u64>
         ensures value { result ≡ (if nat_le class 7 then load_promise (load_model self.now) class else None) }
-        ensures small { IfSome result (λ n. n ≤ 34359738615000000) }
+        ensures small { IfSome result (λ n. n ≤ longest_promise) }
         ensures laws { PromiseLaws }
     {
         if class > 7 {
@@ -91,7 +94,7 @@ impl Load {
     pub fn with(&self, flow: &Flow) -> Option<Load>
         ensures { option_map load_model result ≡ (if load_fits (load_model self.now) (flow_of flow.now) then Some (load_with (load_model self.now) (flow_of flow.now)) else None) }
     {
-        let class = flow.class as usize;
+        let class = usize::from(flow.class);
         let mut load = *self;
         load.classes[class] = load.classes[class].with(flow)?;
         Some(load)
@@ -129,7 +132,7 @@ impl Asked {
 fn share(ticks: u64, before: u64) -> u64
     requires { (before < 1000000) × (ticks ≤ 34359738615) }
     ensures value { result ≡ ticks * 1000000 / (1000000 - before) }
-    ensures small { result ≤ 34359738615000000 }
+    ensures small { result ≤ longest_promise }
 {
     ticks * DEN / (DEN - before)
 }

@@ -2,7 +2,7 @@
 ghost use Rattle.std.specs.Prelude.{◌≡◌, ◌≤◌, take, replicate, IfSome, slice_index_or};
 ghost use Rattle.std.specs.Option.{option_map};
 ghost use Rattle.flows.specs.Models.{net_of, flow_of};
-ghost use Rattle.promises.specs.Loads.{no_load, loads_with, loads_until, loads_along, loads_promise, loads_dues};
+ghost use Rattle.promises.specs.Loads.{no_load, loads_with, loads_until, loads_along, longest_promise, loads_promise, loads_dues};
 ghost use Rattle.promises.specs.Models.{load_model, loads_model};
 
 use super::load::Load;
@@ -12,7 +12,7 @@ use flows::flow::Flow;
 use flows::net::Net;
 
 impl Loads {
-    // Nothing is asked of any port: one thing for all of them, as of pairs.
+    // Nothing is asked of any port.
     pub fn none() -> Self
         ensures { loads_model result ≡ replicate 64 no_load }
     {
@@ -24,12 +24,13 @@ impl Loads {
     // What a port promises a class; past the last port as where nothing is asked.
     pub fn promise(&self, port: u8, class: u8) -> Option<u64>
         ensures value { result ≡ loads_promise (loads_model self.now) port class }
-        ensures small { IfSome result (λ n. n ≤ 34359738615000000) }
+        ensures small { IfSome result (λ n. n ≤ longest_promise) }
     {
         self.at(port).promise(class)
     }
 
-    // What a flow is due up to each port of its road; None where a port has no promise for it.
+    // What a flow is due up to each port of its road; None where a port has no promise for it. A table as long as a road
+    // may be, of which the road's length is in use: so it cannot fail for want of memory.
     pub fn dues(&self, net: &Net, flow: &Flow) -> Option<[u64; 16]>
         ensures { option_map (take flow.now.hops) result ≡ loads_dues (net_of net.now) (loads_model self.now) flow.now.class 0 (flow_of flow.now).road }
     {
@@ -44,7 +45,17 @@ impl Loads {
         Some(dues)
     }
 
-    // One flow more at each port of its road, in place. None where a sum would pass 32 bits: the ports before have it then.
+    // One flow more at each port of its road; None where a sum would pass 32 bits.
+    pub fn with(&self, flow: &Flow) -> Option<Loads>
+        ensures { option_map loads_model result ≡ loads_with (flow_of flow.now) (flow_of flow.now).road (loads_model self.now) }
+    {
+        let mut loads = *self;
+        loads.add(flow)?;
+        Some(loads)
+    }
+
+    // The same in place; where it is None, the ports before have the flow already. Nothing but that it does not fit can be
+    // said, as of `checked_add`.
     pub fn add(&mut self, flow: &Flow) -> Option<()>
         ensures left { loads_model self.new ≡ loads_until (flow_of flow.now) (flow_of flow.now).road (loads_model self.old) }
         ensures told { option_map (λ _. loads_model self.new) result ≡ loads_with (flow_of flow.now) (flow_of flow.now).road (loads_model self.old) }

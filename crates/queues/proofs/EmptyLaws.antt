@@ -1,14 +1,15 @@
 -- Queues with no packet, and what waits in queues. Assumes nothing.
-use Rattle.std.proofs.Common.{◌≡◌, ℕ, zero, suc, ◌+◌, ◌<◌, ◌≤◌, cond, ltb, ◌⊎◌, List, [], ◌∷◌, map, get_or, replicate, sym, refl, ap, ◌∙◌, subst, inl, inr, zero-add, add-one, arith}
+use Rattle.std.proofs.Common.{◌≡◌, ℕ, zero, suc, ◌+◌, ◌<◌, ◌≤◌, cond, ltb, min, ◌⊎◌, List, [], ◌∷◌, map, fold, length, get_or, replicate, sym, refl, ap, ◌∙◌, subst, inl, inr, zero-add, arith}
 use Rattle.std.specs.List.{AllByRecursion as Each}
 use Rattle.std.proofs.lemmas.List.{get_or-replicate}
 use Rattle.std.proofs.lemmas.Bool.{cases_eq, cases_lt, lt-ltb, le-ltb}
 use Rattle.lines.specs.declared.packet.Packet.{Packet}
 use Rattle.queues.specs.declared.cell.Cell.{Cell}
+use Rattle.queues.specs.declared.queues_of.Queue.{Queue}
 use Rattle.queues.specs.declared.queues_of.Queues.{Queues}
 use Rattle.queues.specs.Lines.{ticks_of, sum_to, ticks_in}
-use Rattle.queues.specs.Held.{packet_at, next_at, places, last_of, occurs, queue_of, places_of, free_places, size, Holds}
-use Rattle.queues.proofs.ChainLaws.{occurs_here, occurs_other, no_places, sum_same, sum_over_lem}
+use Rattle.queues.specs.Held.{packet_at, next_at, places, last_of, occurs, queue_of, places_of, free_places, size, no_queue, Holds}
+use Rattle.queues.proofs.ChainLaws.{occurs_here, occurs_other, no_places, sum_same, sum_front, sum_over_lem}
 use Rattle.queues.proofs.PutLaws.{ticks-few}
 
 -- places of which each is the one after the one before
@@ -84,7 +85,10 @@ ticks_fit_all q cells lines held =
     let few = ticks-few q cells lines held in
     omega (arith, few 0 (omega arith), few 1 (omega arith), few 2 (omega arith), few 3 (omega arith), few 4 (omega arith), few 5 (omega arith), few 6 (omega arith), few 7 (omega arith))
 
--- one class more
-pub sum_more : (f : ℕ → ℕ) (n : ℕ) → sum_to (n + 1) f ≡ sum_to n f + f n
+-- ticks of one queue after the other, added up to at most the largest number of 64 bits
+pub ticks_added : (xs : List Queue) (a : ℕ) → a ≤ 18446744073709551615 →
+    fold (λ n x. min (n + x.ticks) 18446744073709551615) a xs ≡ min (a + sum_to (length xs) (λ c. (get_or xs c no_queue).ticks)) 18446744073709551615
 unfolding sum_to
-sum_more f n = rw add-one refl
+ticks_added [] a fits = omega (arith, fits)
+ticks_added (x ∷ xs) a fits =
+    omega (arith, ticks_added xs (min (a + x.ticks) 18446744073709551615) (omega arith), sum_front (length xs) (λ c. (get_or (x ∷ xs) c no_queue).ticks))

@@ -24,6 +24,7 @@ fn link_all(cells: &mut [Cell]) -> u32
     ensures counted { result ≡ size cells.new }
     ensures linked { (k : ℕ) → k < result → next_at cells.new k ≡ k + 1 }
 {
+    // counted beside the loop: of what an adapter of `iter_mut` wrote nothing is known
     let mut count: u32 = 0;
     for cell in cells.iter_mut() {
         count = count.saturating_add(1);

@@ -1,5 +1,5 @@
 // Putting into the queues of a port.
-ghost use Rattle.std.specs.Prelude.{◌≡◌, true, false, ◌&&◌, List, nat_le, nat_lt, slice_set};
+ghost use Rattle.std.specs.Prelude.{◌≡◌, true, false, ◌&&◌, is_some, List, nat_le, nat_lt, slice_set};
 ghost use Rattle.queues.specs.Lines.{put_in, packets_in};
 ghost use Rattle.queues.specs.Held.{Holds, packet_at, size};
 
@@ -15,27 +15,23 @@ impl Queues {
         ensures entered { (lines : List (List Packet)) → Holds self.old cells.old lines → result ≡ true → Holds self.new cells.new (put_in lines class packet) }
         ensures refused { result ≡ false → (self.new ≡ self.old) × (cells.new ≡ cells.old) }
     {
-        let class = class as usize;
-        if class >= self.classes.len() {
-            return false;
-        }
-        let Some(free_count) = self.free_count.checked_sub(1) else {
-            return false;
-        };
-        let queue = self.classes[class];
+        self.enter(cells, usize::from(class), packet).is_some()
+    }
+
+    // The same, each step as an Option.
+    fn enter(&mut self, cells: &mut [Cell], class: usize, packet: Packet) -> Option<()>
+        ensures answer { (lines : List (List Packet)) → Holds self.old cells.old lines → is_some result ≡ (nat_le class 7 && nat_lt (packets_in lines) (size cells.old)) }
+        ensures entered { (lines : List (List Packet)) → Holds self.old cells.old lines → is_some result ≡ true → Holds self.new cells.new (put_in lines class packet) }
+        ensures refused { is_some result ≡ false → (self.new ≡ self.old) × (cells.new ≡ cells.old) }
+    {
+        let queue = *self.classes.get(class)?;
+        let free_count = self.free_count.checked_sub(1)?;
         let free = self.free;
         let place = free as usize;
         // where cells and counts belong together, none of the next three returns
-        if place >= cells.len() {
-            return false;
-        }
-        let Some(count) = queue.count.checked_add(1) else {
-            return false;
-        };
-        let Some(ticks) = queue.ticks.checked_add(packet.length as u64) else {
-            return false;
-        };
-        let next = cells[place].next;
+        let next = cells.get(place)?.next;
+        let count = queue.count.checked_add(1)?;
+        let ticks = queue.ticks.checked_add(u64::from(packet.length))?;
         cells[place].packet = packet;
         let first = if queue.count == 0 {
             free
@@ -51,7 +47,7 @@ impl Queues {
         };
         self.free = next;
         self.free_count = free_count;
-        true
+        Some(())
     }
 }
 

@@ -10,7 +10,7 @@ pub struct Queue {
 }
 
 // The queues of a port, one for each class, and where the free cells begin. The cells are lent to each call, and not held
-// here: the memory stays its owner's.
+// here: the memory stays its owner's. The free cells are linked as a queue is, but have no last and no ticks, so no `Queue`.
 #[derive(Clone, Copy, Debug, Default, PartialEq, Eq)]
 pub struct Queues {
     pub classes: [Queue; 8],

@@ -21,6 +21,7 @@ impl Queues {
         };
         match self.take_of(cells, class) {
             Some(packet) => Taken::Packet {
+                // below 8, so `as` loses nothing; try_from would have a case that never comes
                 class: class as u8,
                 packet,
             },
@@ -34,7 +35,7 @@ impl Queues {
         ensures laws { QueueLaws }
     {
         let mut lowest = None;
-        // a rule of the project: the loop over the classes is left by its label
+        // a rule of the project, so no `position`: a loop over the classes, left by its label at the first with a packet
         'found: for (class, queue) in self.classes.iter().enumerate() {
             if queue.count > 0 {
                 lowest = Some(class);
@@ -49,6 +50,7 @@ impl Queues {
         ensures first { IsLowest self.old class → (lines : List (List Packet)) → Holds self.old cells.old lines → MatchOption result ⊥ (λ packet. (Taken.Packet class packet ≡ taken_from 0 lines) × Holds self.new cells.new (left_by lines)) }
         ensures nothing { result ≡ None → (self.new ≡ self.old) × (cells.new ≡ cells.old) }
     {
+        // tests and indices: with `get` in place of either it was not proved that `place` fits its type
         if class >= self.classes.len() {
             return None;
         }
@@ -59,7 +61,7 @@ impl Queues {
         }
         let cell = cells[place];
         let count = queue.count.checked_sub(1)?;
-        let ticks = queue.ticks.checked_sub(cell.packet.length as u64)?;
+        let ticks = queue.ticks.checked_sub(u64::from(cell.packet.length))?;
         let free_count = self.free_count.checked_add(1)?;
         cells[place].next = self.free;
         self.classes[class] = Queue {

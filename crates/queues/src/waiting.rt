@@ -8,14 +8,12 @@ use super::queues_of::Queues;
 use lines::packet::Packet;
 
 impl Queues {
-    // All ticks that wait, of the eight classes together: a sum that stays at its largest, which the library has not.
+    // All ticks that wait, of the eight classes together.
     pub fn waiting(&self) -> u64
         ensures { (cells : List Cell) (lines : List (List Packet)) → Holds self.now cells lines → result ≡ ticks_in lines }
     {
-        let mut ticks: u64 = 0;
-        for queue in self.classes.iter() {
-            ticks = ticks.saturating_add(queue.ticks);
-        }
-        ticks
+        self.classes
+            .iter()
+            .fold(0, |ticks: u64, queue| ticks.saturating_add(queue.ticks))
     }
 }

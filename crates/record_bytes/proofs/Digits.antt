@@ -1,7 +1,11 @@
 -- Numbers and their bytes are one another's inverse. Assumes nothing.
-use Rattle.std.proofs.Common.{◌≡◌, ℕ, zero, suc, ◌+◌, ◌*◌, ◌/◌, ◌%◌, ◌^◌, ◌<◌, ◌≤◌, List, [], ◌∷◌, length, get_or, refl, ap, mod-lt, mod-eq_of_lt, add-mul, div-add-mod', arith}
+use Rattle.std.proofs.Common.{◌≡◌, ℕ, zero, suc, ◌+◌, ◌*◌, ◌/◌, ◌%◌, ◌^◌, ◌<◌, ◌≤◌, ◌≢◌, Some, Ok, Err, Result, List, [], ◌∷◌, length, get_or, refl, ap, sym, mod-lt, mod-eq_of_lt, add-mul, div-add-mod', div-lt_iff_lt-mul, arith}
 use native.Mathlib.Nat.{mul-add-mod_self_right, pow-zero, pow-succ'}
 use Rattle.std.specs.List.{AllByRecursion as Each}
+use Rattle.std.specs.Prelude.{MatchResult}
+use Rattle.std.specs.Result.{result_ok}
+use Rattle.std.specs.Array.{IsWholeChunk}
+use Rattle.std.proofs.lemmas.Option.{none-some}
 use Rattle.std.proofs.lemmas.Nat.{div-mul-add, mul-le}
 use Rattle.record_bytes.specs.Numbers.{value, bytes_of, IsByte}
 
@@ -37,6 +41,14 @@ bytes_of-value [] h = refl
 bytes_of-value (b ∷ bs) h =
     let low = value-below bs h.1 in
     rw (div-mul-add b (256 ^ length bs) (value bs) low, mul-add-mod_self_right b (256 ^ length bs) (value bs), mod-eq_of_lt low, bytes_of-value bs h.1) refl
+
+pub bytes_of-bytes : (k n : ℕ) → n < 256 ^ k → Each IsByte (bytes_of k n)
+unfolding bytes_of
+bytes_of-bytes zero n h = tt
+bytes_of-bytes (suc k) n h =
+    let positive = power_positive k in
+    let bound : n < 256 * 256 ^ k = rw (← pow-succ' 256 k) h in
+    ((div-lt_iff_lt-mul positive).1 bound, bytes_of-bytes k (n % 256 ^ k) (mod-lt n positive))
 
 -- the bytes of a number as the code writes them
 pub bytes_of_one : (n : ℕ) → bytes_of 1 n ≡ n ∷ []
@@ -78,3 +90,9 @@ value_of_four (a ∷ b ∷ []) size = absurd (omega arith)
 value_of_four (a ∷ b ∷ c ∷ []) size = absurd (omega arith)
 value_of_four (a ∷ b ∷ c ∷ d ∷ []) size = omega arith
 value_of_four (a ∷ b ∷ c ∷ d ∷ e ∷ bs) size = absurd (omega arith)
+
+-- an array that a slice was taken as
+pub whole_chunk : {E : Type 0} (xs ys : List ℕ) (n : ℕ) (r : Result (List ℕ) E) → MatchResult r (λ y. IsWholeChunk xs y n) (λ _. length xs ≢ n) →
+    Some ys ≡ result_ok r → (length xs ≡ n) × (ys ≡ xs)
+whole_chunk xs ys n (Ok y) is got = (is.long, cc (is.same, got))
+whole_chunk xs ys n (Err e) is got = absurd (none-some ys (sym got))

@@ -45,12 +45,17 @@ module _ {A : Type 0} (n i : ℕ) (one : Cursor → Outcome A) (table : List A) 
   pub reads_fault : (code place : ℕ) → i < n → fault code place ≡ one c → Reads → fault code place ≡ whole
   reads_fault code place more is reads = several-fault (n - i) one (take i table) code place c (omega arith) is ∙ reads
 
-  pub reads_end : length table ≡ n → n ≤ i → i ≤ n → Reads → read table c ≡ whole
+  pub reads_end : n ≤ i → i ≤ n → Reads → read (take n table) c ≡ whole
   unfolding several
-  reads_end size all most reads =
+  reads_end all most reads =
+      let same : n ≡ i = omega arith in
       let none : n - i ≡ 0 = omega arith in
       let got : read (take i table ++ []) c ≡ whole = rw none at reads in
-      rw (append-nil, take_all i table (omega arith)) at got
+      rw (same, ← append-nil (take i table)) got
+
+  -- of a table that is as long
+  pub reads_whole : length table ≡ n → n ≤ i → i ≤ n → Reads → read table c ≡ whole
+  reads_whole size all most reads = ap (λ t. read t c) (sym (take_all n table (omega arith))) ∙ reads_end all most reads
 
 module _ {A : Type 0} (Sound : A → Type 0) (one : Cursor → Outcome A) (write : A → List ℕ) where
   pub steady_several : Steady one → (n : ℕ) → Steady (several n one)

@@ -1,11 +1,13 @@
 -- What the answers of the code say in the words of the definitions. Assumes nothing.
-use Rattle.std.specs.Prelude.{ℕ, List, Some, None, Ok, Err, Option, Result}
+use Rattle.std.specs.Prelude.{◌≡◌, IfNone, ℕ, List, Some, None, Ok, Err, Option, Result}
 use Rattle.record_bytes.specs.declared.fault.Fault.{Fault}
 use Rattle.record_bytes.specs.declared.fault.Fault.TheVariants.{Length, Range, Road}
 use Rattle.record_bytes.specs.declared.reader.Reader.{Reader}
 use Rattle.record_bytes.specs.declared.piece.Piece.{Piece}
 use Rattle.record_bytes.specs.declared.piece.Split.{Split}
-use Rattle.record_bytes.specs.Row.{Extent, Next, finished, found}
+use Rattle.record_bytes.specs.declared.records.Records.{Records}
+use Rattle.std.specs.Iterator.{YieldsFirstBy}
+use Rattle.record_bytes.specs.Row.{Extent, Next, finished, found, next_record, row}
 use Rattle.record_bytes.specs.Reading.{Cursor, Outcome, read, fault, Verdict, accepted, refused, end_of}
 
 -- the number of each fault
@@ -46,6 +48,13 @@ extent p = record { bytes = p.bytes.now; whole = p.whole }
 abbrev pub following : Option Piece → List ℕ → Next
 following None rest = finished
 following (Some p) rest = found (extent p) rest
+
+-- What a reader of records answers: the next one of what is left, and where there is none nothing is taken. As of any
+-- iterator, its records come in the order of the row.
+pub record GivesNext (before : Records) (piece : Option Piece) (after : Records) : Type 0 where
+  pub value : following piece after.rest.now ≡ next_record before.rest.now
+  pub kept : IfNone piece (after.rest.now ≡ before.rest.now)
+  pub in_order : YieldsFirstBy extent (λ (records : Records). row records.rest.now) before piece after
 
 abbrev pub first : Option Split → Next
 first None = finished

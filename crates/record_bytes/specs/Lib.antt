@@ -4,3 +4,4 @@ pub mod Row
 pub mod Answers
 pub mod Format
 pub mod Kinds
+pub mod Texts

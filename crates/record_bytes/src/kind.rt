@@ -23,6 +23,7 @@ impl TryFrom<u8> for Kind {
 
     ghost try_from_gives = { Decodes };
 
+    // The numbers once more, since a pattern takes no cast; both are proved to be those of one definition.
     fn try_from(first: u8) -> Result<Self, UnknownKind> {
         match first {
             1 => Ok(Kind::Flow),
@@ -45,14 +46,16 @@ impl fmt::Display for UnknownKind {
 
 impl Error for UnknownKind {}
 
-impl Kind {
-    // The byte that a record of this kind begins with.
-    pub fn byte(self) -> u8
-        ensures { result ≡ byte_of self }
-    {
-        self as u8
-    }
+// The byte that a record of a kind begins with.
+impl From<Kind> for u8 {
+    ghost from_gives = { λ kind byte. byte ≡ byte_of kind };
 
+    fn from(kind: Kind) -> u8 {
+        kind as u8
+    }
+}
+
+impl Kind {
     // What the bytes of a record say that it is.
     pub fn told_by(bytes: &[u8]) -> Option<Kind>
         ensures { result ≡ kind_in bytes.now }

@@ -1,7 +1,8 @@
 ghost use Rattle.std.specs.Prelude.{◌≡◌, ℕ, length, if◌then◌else◌, ◌==◌, Some, None, option_map};
 ghost use Rattle.record_bytes.specs.Numbers.{value as value_of};
 
-// A number that stands in so many bytes, high byte first, and fits 32 bits.
+// A number that stands in so many bytes, high byte first, and fits 32 bits. The impls below are alike as impls of a trait
+// are: each names its own array and its own `from_be_bytes`, which no trait has in common.
 pub trait Number: Copy + Into<u32> {
     const SIZE: usize;
 
@@ -43,10 +44,8 @@ impl Number for u16 {
     ghost fits_word = { λ n word is. is };
 
     fn from_bytes(bytes: &[u8]) -> Option<u16> {
-        let [high, low] = bytes else {
-            return None;
-        };
-        Some(u16::from_be_bytes([*high, *low]))
+        let bytes = <[u8; 2]>::try_from(bytes).ok()?;
+        Some(u16::from_be_bytes(bytes))
     }
 }
 
@@ -60,9 +59,7 @@ impl Number for u32 {
     ghost fits_word = { λ n word is. is };
 
     fn from_bytes(bytes: &[u8]) -> Option<u32> {
-        let [first, second, third, last] = bytes else {
-            return None;
-        };
-        Some(u32::from_be_bytes([*first, *second, *third, *last]))
+        let bytes = <[u8; 4]>::try_from(bytes).ok()?;
+        Some(u32::from_be_bytes(bytes))
     }
 }

@@ -52,7 +52,7 @@ impl<'a> Reader<'a> {
         Ok(n)
     }
 
-    // The kind of the record, which must be the one that is wanted. Any byte may be: which there are is not said here.
+    // The kind of the record, which must be the one that is wanted. Wanted is a byte: a `Kind` would ask more of callers.
     pub fn kind(&mut self, wanted: u8) -> Result<u8, Fault>
         ensures value { part (λ n. n) result (cursor self.new) ≡ kind_byte wanted (cursor self.old) }
         ensures kept { OnErr result (cursor self.new ≡ cursor self.old) }
@@ -68,7 +68,9 @@ impl<'a> Reader<'a> {
         Ok(kind)
     }
 
-    // The value of a record that ends here; a fault where bytes are left over, or where the record was cut.
+    // The value of a record that ends here; a fault where bytes are left over, or where the record was cut. Each reader of a
+    // whole record calls `new` and this itself: a function around what stands between would take that as a closure, and
+    // would have to require that it may be called, while public functions require nothing.
     pub fn close<T: Drop>(self, whole: bool, value: T) -> Result<T, Fault>
         ensures { verdict (λ v. v) result ≡ closed whole (read value (cursor self.entry)) }
     {

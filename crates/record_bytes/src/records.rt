@@ -1,7 +1,8 @@
 // The records of an input, one after the other.
-ghost use Rattle.std.specs.Prelude.{◌≡◌, IfNone};
+ghost use Rattle.std.specs.Prelude.{◌≡◌, length};
+ghost use Rattle.std.specs.Iterator.{at_most};
 ghost use Rattle.record_bytes.specs.Row.{next_record, OneRow};
-ghost use Rattle.record_bytes.specs.Answers.{following, first};
+ghost use Rattle.record_bytes.specs.Answers.{GivesNext, first};
 
 use super::piece::{Piece, Split};
 
@@ -16,12 +17,18 @@ impl<'a> Records<'a> {
     {
         Records { rest: input }
     }
+}
 
-    // The next record; None, and nothing taken, at the end. A method of its own and no Iterator, since it says what is left.
-    pub fn next(&mut self) -> Option<Piece<'a>>
-        ensures value { following result self.new.rest.now ≡ next_record self.old.rest.now }
-        ensures kept { IfNone result (self.new.rest.now ≡ self.old.rest.now) }
-    {
+impl<'a> Iterator for Records<'a> {
+    type Item = Piece<'a>;
+
+    ghost next_gives = { GivesNext };
+
+    ghost remaining = { λ records. at_most (length records.rest.now) };
+
+    // The next record; None, and nothing taken, at the end.
+    #[tactic(auto, using(crate::proofs::Row::row_next, crate::proofs::Row::row_end))]
+    fn next(&mut self) -> Option<Piece<'a>> {
         let split = split_first(self.rest)?;
         self.rest = split.rest;
         Some(split.piece)

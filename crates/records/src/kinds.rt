@@ -1,4 +1,5 @@
-// Which kinds of records are known where a program stands. Program and stage are given apart, as they stand in a session.
+// Which kinds of records are known where a program stands. Program and stage are two parameters: one never changes and the
+// other often does, so whoever calls keeps them apart, and a struct of both would be made for each call.
 ghost use Rattle.std.specs.Prelude.{◌≡◌};
 ghost use Rattle.records.specs.Kinds.{is_known, kind_of};
 

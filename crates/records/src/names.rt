@@ -29,6 +29,7 @@ impl FromStr for Program {
     ghost from_str_gives = { MeansProgram };
 
     fn from_str(name: &str) -> Result<Program, UnknownProgram> {
+        // each name stands here and above: three constants would say no more
         match name {
             "admit" => Ok(Program::Admit),
             "ports" => Ok(Program::Ports),

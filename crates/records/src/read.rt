@@ -1,5 +1,4 @@
-// Records from bytes. Each reader begins its record and closes it itself, since what stands between takes other values
-// for each kind.
+// Records from bytes. Why each reader closes its record itself stands at `Reader::close`.
 ghost use Rattle.std.specs.Prelude.{◌≡◌, length};
 ghost use Rattle.record_bytes.specs.Answers.{cursor, part, verdict};
 ghost use Rattle.record_bytes.specs.Format.{Format};
@@ -24,7 +23,7 @@ use record_bytes::reader::Reader;
 fn read_packet_parts(reader: &mut Reader) -> Result<Packet, Fault>
     ensures { part (λ p. p) result (cursor reader.new) ≡ packet_from (cursor reader.old) }
 {
-    reader.kind(Kind::Packet.byte())?;
+    reader.kind(Kind::Packet.into())?;
     let Some(flow) = reader.number() else {
         return Err(reader.missing());
     };
@@ -55,13 +54,14 @@ fn read_arrival(piece: Piece, net: &Net) -> Result<Arrival, Fault>
     reader.close(piece.whole, Arrival { packet, port })
 }
 
-// The number that a record of a kind and one number holds.
+// The number that a record of a kind and one number holds. Ticks and switches are read by it in a function each, since
+// each of the two says the law of its own format.
 #[tactic(auto, unfolding(crate::specs::Formats::number_of_kind))]
 fn read_number<T: Number>(piece: Piece, kind: Kind) -> Result<T, Fault>
     ensures { verdict T.value result ≡ number_record (byte_of kind) T.SIZE piece.entry.whole piece.entry.bytes.now }
 {
     let mut reader = Reader::new(piece.bytes);
-    reader.kind(kind.byte())?;
+    reader.kind(kind.into())?;
     let Some(number) = reader.number() else {
         return Err(reader.missing());
     };

@@ -1,7 +1,7 @@
 -- The lines that are printed, byte by byte. Assumes nothing.
 use Rattle.std.specs.Prelude.{ℕ, ◌-◌, List, [], ◌∷◌, ◌++◌, length, drop, codes, decimal, slice_index}
-use Rattle.record_bytes.specs.declared.fault.Fault.TheVariants as faults
-use Rattle.admission.specs.declared.refusal.Refusal.TheVariants.{Road, Crowded, Promised, Late, Memory}
+use Rattle.record_bytes.specs.Texts.{fault_text}
+use Rattle.admission.specs.Texts.{refusal_text}
 use Rattle.admission.specs.Dues.{DuesModel}
 use Rattle.script.specs.declared.line.Name.{Name}
 use Rattle.script.specs.declared.line.Name.TheVariants as names
@@ -18,14 +18,8 @@ name_text (names.Record number) = codes "record " ++ decimal number
 
 -- the number of each cause, and behind it where the fault is, what fails, or whose packet it was
 abbrev pub cause_text : Cause → List ℕ
-cause_text (causes.Fault (faults.Length at)) = codes "1: byte " ++ decimal at
-cause_text (causes.Fault (faults.Range at)) = codes "2: byte " ++ decimal at
-cause_text (causes.Fault (faults.Road at)) = codes "3: byte " ++ decimal at
-cause_text (causes.Admission Road) = codes "3"
-cause_text (causes.Admission (Promised port)) = codes "4: port " ++ decimal port
-cause_text (causes.Admission (Late flow)) = codes "5: flow " ++ decimal flow
-cause_text (causes.Admission (Memory switch)) = codes "6: switch " ++ decimal switch
-cause_text (causes.Admission Crowded) = codes "7"
+cause_text (causes.Fault fault) = fault_text fault
+cause_text (causes.Admission refusal) = refusal_text refusal
 cause_text (causes.Packet flow) = codes "8: flow " ++ decimal flow
 cause_text causes.Clock = codes "10"
 cause_text causes.Memories = codes "11"

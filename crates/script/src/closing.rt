@@ -16,6 +16,7 @@ impl Session {
         }
         Some([
             Line::Clock { tick: self.clock },
+            // two of the session's counts, field by field: a conversion would name them just so
             Line::Counts {
                 no_flow: self.no_flow,
                 others: self.others,

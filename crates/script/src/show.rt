@@ -3,8 +3,6 @@ ghost use Rattle.std.specs.Prelude.{Some};
 ghost use Rattle.script.specs.Lines.{name_text, cause_text, line_text};
 
 use super::line::{Cause, Line, Name};
-use admission::refusal::Refusal;
-use record_bytes::fault::Fault;
 use std::fmt;
 
 impl fmt::Display for Name {
@@ -24,30 +22,8 @@ impl fmt::Display for Cause {
 
     fn fmt<W: fmt::Write>(&self, f: &mut fmt::Formatter<W>) -> fmt::Result {
         match self {
-            Cause::Fault {
-                fault: Fault::Length { at },
-            } => write!(f, "1: byte {at}"),
-            Cause::Fault {
-                fault: Fault::Range { at },
-            } => write!(f, "2: byte {at}"),
-            Cause::Fault {
-                fault: Fault::Road { at },
-            } => write!(f, "3: byte {at}"),
-            Cause::Admission {
-                refusal: Refusal::Road,
-            } => write!(f, "3"),
-            Cause::Admission {
-                refusal: Refusal::Promised { port },
-            } => write!(f, "4: port {port}"),
-            Cause::Admission {
-                refusal: Refusal::Late { flow },
-            } => write!(f, "5: flow {flow}"),
-            Cause::Admission {
-                refusal: Refusal::Memory { switch },
-            } => write!(f, "6: switch {switch}"),
-            Cause::Admission {
-                refusal: Refusal::Crowded,
-            } => write!(f, "7"),
+            Cause::Fault { fault } => write!(f, "{fault}"),
+            Cause::Admission { refusal } => write!(f, "{refusal}"),
             Cause::Packet { flow } => write!(f, "8: flow {flow}"),
             Cause::Clock => write!(f, "10"),
             Cause::Memories => write!(f, "11"),

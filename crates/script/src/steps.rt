@@ -100,6 +100,7 @@ impl Session {
         ensures { MatchResult result (λ line. (Some line, standing self.new) ≡ take_flow (standing self.old) (flow_of flow)) (λ _. standing self.new ≡ standing self.old) }
     {
         let number = self.numbered;
+        // no `?`: these patterns make no error, since a refusal becomes a line, and only want of memory is handed on
         match self.plan.admit(Numbered { number, flow }) {
             Ok(()) => Ok(Line::Admitted { number }),
             Err(NotAdmitted::Refused { refusal }) => {

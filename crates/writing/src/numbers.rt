@@ -1,4 +1,5 @@
-// Numbers, high byte first, and kinds. Where there is no memory for one, nothing is put.
+// Numbers, high byte first, and kinds. Where there is no memory for one, nothing is put. The impls are alike as impls of a
+// trait are: no trait has `to_be_bytes`, so none for all numbers can call it.
 ghost use Rattle.std.specs.Prelude.{◌≡◌, ◌++◌, OnOk, OnErr};
 ghost use Rattle.record_bytes.specs.Kinds.{byte_of};
 ghost use Rattle.record_bytes.specs.Numbers.{bytes_of};
@@ -25,7 +26,7 @@ impl Written for u16 {
         ensures appended { OnOk result (out.new.items ≡ out.old.items ++ bytes_of 2 self.now) }
         ensures kept { OnErr result (out.new.items ≡ out.old.items) }
     {
-        out.extend_from_slice(&self.to_be_bytes())
+        out.extend_from_slice(&u16::to_be_bytes(*self))
     }
 }
 
@@ -36,7 +37,7 @@ impl Written for u32 {
         ensures appended { OnOk result (out.new.items ≡ out.old.items ++ bytes_of 4 self.now) }
         ensures kept { OnErr result (out.new.items ≡ out.old.items) }
     {
-        out.extend_from_slice(&self.to_be_bytes())
+        out.extend_from_slice(&u32::to_be_bytes(*self))
     }
 }
 
@@ -47,6 +48,6 @@ impl Written for Kind {
         ensures appended { OnOk result (out.new.items ≡ out.old.items ++ bytes_of 1 (byte_of self.now)) }
         ensures kept { OnErr result (out.new.items ≡ out.old.items) }
     {
-        self.byte().put(out)
+        u8::from(*self).put(out)
     }
 }

@@ -13,6 +13,7 @@ use std::alloc::AllocError;
 impl Written for Flow {
     ghost bytes = { λ flow. flow_bytes (flow_of flow) };
 
+    #[tactic(auto, using(crate::proofs::Fronts::begun_after, crate::proofs::Fronts::begun_not))]
     fn put(&self, out: &mut Vec<u8>) -> Result<(), AllocError> {
         Kind::Flow.put(out)?;
         self.class.put(out)?;
@@ -43,8 +44,8 @@ impl Written for Net {
     fn put(&self, out: &mut Vec<u8>) -> Result<(), AllocError> {
         Kind::Net.put(out)?;
         self.count.put(out)?;
-        put_all(&self.ports[..self.count as usize], out)?;
+        put_all(self.ports(), out)?;
         self.switches.put(out)?;
-        put_all(&self.memory[..self.switches as usize], out)
+        put_all(self.memories(), out)
     }
 }

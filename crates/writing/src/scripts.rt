@@ -1,4 +1,4 @@
-// Packets, ticks and switches.
+// Packets, ticks and switches. The impls are alike as impls of a trait are: each puts its own fields.
 ghost use Rattle.records.specs.Formats.{packet_bytes, arrival_bytes, ticks_bytes, switch_bytes};
 
 use super::written::Written;

@@ -1,6 +1,6 @@
 use Rattle.std.proofs.Common.{◌≡◌, length, arith}
 use Rattle.std.proofs.lemmas.Result.{err_from_is_err_and}
-use Rattle.record_bytes.proofs.Several.{reads_on, reads_fault, reads_end}
+use Rattle.record_bytes.proofs.Several.{reads_on, reads_fault, reads_whole}
 use Rattle.flows.proofs.read_net.read_all.Goals as goal
 
 pub returns-in_err-place : goal.returns-in_err-place
@@ -15,4 +15,4 @@ loop-place-preserved g c =
 
 pub returns : goal.returns
 returns g c =
-    reads_end _ _ g.T.Part.from _ _ _ c.loop-place.auto.place-items c.loop-place-test.false c.loop-place.auto.place-index-end c.loop-place.invariant
+    reads_whole _ _ g.T.Part.from _ _ _ c.loop-place.auto.place-items c.loop-place-test.false c.loop-place.auto.place-index-end c.loop-place.invariant

@@ -24,15 +24,16 @@ invariant_of-result c =
     let s = c.in_ok-switches.switches in
     let all_ports : min n 64 ≡ n = omega (arith, c.in_ok-count.ensures.inside) in
     let all_memories : min s 255 ≡ s = omega (arith, c.in_ok-switches.ensures.inside) in
-    let kind = rw c.byte.ensures at c.in_ok-kind.ensures.value in
-    let ports-size = simp (length-take, all_ports) at c.read_all.auto.places in
-    let memory-size = simp (length-take, all_memories) at c.read_all-2.auto.places in
-    let ports = simp (length-take, all_ports) at c.in_ok-read_all.ensures in
-    let memory = simp (length-take, all_memories) at c.in_ok-read_all-2.ensures in
-    let needs = simp take_at at c.switches_needed-needed.ensures in
+    let kind = rw c.into.ensures at c.in_ok-kind.ensures.value in
+    let ports-size = simp (length-take, c.from.ensures, all_ports) at c.read_all.auto.places in
+    let memory-size = simp (length-take, c.from-4.ensures, all_memories) at c.read_all-2.auto.places in
+    let ports = simp (length-take, c.from.ensures, all_ports) at c.in_ok-read_all.ensures in
+    let memory = simp (length-take, c.from-4.ensures, all_memories) at c.in_ok-read_all-2.ensures in
+    let needs = simp (c.from-2.ensures, take_at) at c.switches_needed-needed.ensures in
+    let switches = rw c.from-3.ensures at c.in_ok-switches.ensures.value in
     let net : NetModel = record { ports = c.read_all.new.places; memories = c.read_all-2.new.places } in
     let is : net_from c.args.least (cursor c.args.reader.now) ≡ read net (cursor c.read_all-2.new.reader) =
-    rw (← kind, ← c.in_ok-count.ensures.value, ← ports, ← needs, ← c.in_ok-switches.ensures.value, ← memory) refl in
+    rw (← kind, ← c.in_ok-count.ensures.value, ← ports, ← needs, ← switches, ← memory) refl in
     let sound = net_sound c.args.least net (cursor c.args.reader.now) (cursor c.read_all-2.new.reader) is in
     let holds = in_tables c.read_all.new.places _ c.read_all-2.new.places _ n s ports-size memory-size sound.0 in
     record {

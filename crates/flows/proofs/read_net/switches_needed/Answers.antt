@@ -1,16 +1,13 @@
-use Rattle.std.proofs.Common.{sym, ◌∙◌}
-use Rattle.std.proofs.lemmas.List.{at_drop_more, at_drop_all}
-use Rattle.flows.specs.Net.{no_port}
-use Rattle.flows.specs.NetFormat.{needed}
+use Rattle.std.proofs.Common.{◌+◌, max, ◌∙◌, rules, tests}
+use Rattle.std.proofs.lemmas.Iterator.{YieldsList-from_slice, YieldsList-from_map}
+use Rattle.std.proofs.lemmas.Iterator.Consumers.{fold_from_yields_List}
+use Rattle.flows.proofs.NetLaws.{needed_folds}
 use Rattle.flows.proofs.read_net.switches_needed.Goals as goal
 
-pub loop-port-preserved : goal.loop-port-preserved
-unfolding needed
-loop-port-preserved c =
-    rw (c.max-most.ensures, c.max.ensures)
-    (sym (at_drop_more (needed c.loop-port.most) c.args.ports.now c.loop-port.port-index no_port c.loop-port-test.true) ∙ c.loop-port.invariant)
-
 pub returns : goal.returns
-unfolding needed
 returns c =
-    sym (at_drop_all (needed c.loop-port.most) c.args.ports.now c.loop-port.port-index c.loop-port-test.false) ∙ c.loop-port.invariant
+    fold_from_yields_List _ max c.args.least c.fold.result c.fold.ensures.ran
+    (YieldsList-from_map _ (λ port. max port.switch port.ends + 1) (YieldsList-from_slice c.args.ports.now (cc (c.iter.ensures.rest, c.map.ensures.source)))
+    c.map.ensures.closure (λ x r q k. search (rules, tests)))
+    (λ a x b q k. search (rules, tests))
+    ∙ needed_folds c.args.least c.args.ports.now

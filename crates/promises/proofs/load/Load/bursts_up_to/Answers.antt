@@ -1,19 +1,15 @@
-use Rattle.std.proofs.Common.{◌+◌, ◌^◌, ◌<◌, ◌≤◌, length, take, fold, sym, ap, ◌∙◌, arith, rules, tests}
+use Rattle.std.proofs.Common.{◌+◌, ◌^◌, ◌<◌, take, fold, ◌∙◌, arith, rules, tests}
 use Rattle.std.proofs.lemmas.Grind.{common_steps}
 use Rattle.std.proofs.lemmas.Iterator.{YieldsList-from_slice, YieldsList-from_map}
-use Rattle.std.proofs.lemmas.Iterator.Adapters.{fits_from_length, at_most_from_yields_List}
+use Rattle.std.proofs.lemmas.Iterator.Adapters.{fits_from_length}
 use Rattle.std.proofs.lemmas.Iterator.Consumers.{sum_from_yields_List}
-use Rattle.std.proofs.lemmas.List.{take-map}
-use Rattle.promises.specs.Loads.{total}
-use Rattle.promises.proofs.SumLaws.{total_is_sum}
+use Rattle.promises.proofs.SumLaws.{few_classes, fields_total}
 use Rattle.promises.proofs.load.Load.bursts_up_to.Goals as goal
 
 pub sum-requires-clause-fits : goal.sum-requires-clause-fits
 sum-requires-clause-fits c =
     let classes = take (c.args.class + 1) c.args.self.now.classes in
-    let few : length classes ≤ 8 = grind (arith, common_steps) in
-    fits_from_length _ _ 8 (2 ^ 64)
-    (at_most_from_yields_List (YieldsList-from_slice classes (cc (c.iter.ensures.rest, c.map.ensures.source))) few)
+    fits_from_length _ _ 8 (2 ^ 64) (few_classes 8 classes (cc (c.iter.ensures.rest, c.map.ensures.source)) (grind (arith, common_steps)))
     c.map.ensures.closure (omega arith) (λ x r q k. search rules)
 
 pub returns-clause-value : goal.returns-clause-value
@@ -22,15 +18,13 @@ returns-clause-value c =
     sum_from_yields_List c.map.result _ c.sum.ensures.ran
     (YieldsList-from_map _ (λ asked. asked.bursts) (YieldsList-from_slice classes (cc (c.iter.ensures.rest, c.map.ensures.source)))
     c.map.ensures.closure (λ x r q k. search (rules, tests)))
-    ∙ sym (total_is_sum _) ∙ ap total (sym (take-map (λ asked. asked.bursts) (c.args.class + 1) c.args.self.now.classes))
+    ∙ fields_total (λ asked. asked.bursts) (c.args.class + 1) c.args.self.now.classes
 
 pub returns-clause-small : goal.returns-clause-small
 returns-clause-small c =
     let classes = take (c.args.class + 1) c.args.self.now.classes in
-    let few : length classes ≤ 8 = grind (arith, common_steps) in
     let run = c.sum.ensures.runs tt in
     let below : fold (λ a x. a + x) 0 run.0.items < 34359738361 =
-    fits_from_length _ _ 8 34359738361
-    (at_most_from_yields_List (YieldsList-from_slice classes (cc (c.iter.ensures.rest, c.map.ensures.source))) few)
+    fits_from_length _ _ 8 34359738361 (few_classes 8 classes (cc (c.iter.ensures.rest, c.map.ensures.source)) (grind (arith, common_steps)))
     c.map.ensures.closure (omega arith) (λ x r q k. search rules) run.0 run.0.seen run.1 in
     omega (arith, run.3)

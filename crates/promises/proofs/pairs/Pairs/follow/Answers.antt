@@ -1,4 +1,4 @@
-use Rattle.std.proofs.Common.{◌≤◌, ◌∷◌, length, get_or, take, drop, sym, ap, ◌∙◌, arith}
+use Rattle.std.proofs.Common.{◌≤◌, ◌∷◌, length, get_or, drop, sym, ap, ◌∙◌, arith}
 use Rattle.std.specs.Slice.Iter.{windows_rest}
 use Rattle.promises.specs.Loads.{put_pair, pairs_along}
 use Rattle.promises.specs.Models.{pairs_model}
@@ -13,13 +13,12 @@ loop-hop-preserved c =
     let road = windows_rest c.loop-hop.hop-iterator in
     let hop = c.in-Some.hop.now in
     let steps = c.in-Some.ensures.steps in
-    let two = c.loop-hop.invariant.two in
-    let front = window_front road hop (omega (arith, steps.1.0)) (steps.1.1 ∙ ap (λ n. take n road) two) in
+    let front = window_front road hop _ _ c.loop-hop.invariant.two steps.1 in
     record {
       can = omega (arith, steps.0);
       finite = tt;
-      two = steps.0 ∙ two;
-      follows = ap (λ ps. pairs_along ps us (pairs_model c.put.new.self)) (steps.1.2 ∙ front.1)
+      two = steps.0 ∙ c.loop-hop.invariant.two;
+      follows = ap (λ ps. pairs_along ps us (pairs_model c.put.new.self)) front.1
           ∙ ap (pairs_along (get_or hop 1 0 ∷ drop 2 road) us) (c.put.ensures ∙ ap (put_pair tables (get_or hop 0 0) (get_or hop 1 0)) c.pair.ensures)
           ∙ sym (ap (λ ps. pairs_along ps us tables) front.0) ∙ c.loop-hop.invariant.follows;
     }

@@ -4,7 +4,7 @@ use Rattle.queues.proofs.queues_of.Queues.take_of.Goals as goal
 
 pub returns-in_err-ticks-clause-first : goal.returns-in_err-ticks-clause-first
 returns-in_err-ticks-clause-first c lowest lines held =
-    absurd (c.in_err-ticks.ensures (ticks_enough c.args.self.now c.args.cells.now lines held c.args.class lowest.within lowest.found))
+    absurd (c.in_err-ticks.ensures (rw c.from.ensures (ticks_enough c.args.self.now c.args.cells.now lines held c.args.class lowest.within lowest.found)))
 
 pub returns-in_err-free_count-clause-first : goal.returns-in_err-free_count-clause-first
 returns-in_err-free_count-clause-first c lowest lines held =
@@ -16,5 +16,5 @@ returns-then-place-cells-clause-first c lowest lines held =
 
 pub returns-clause-first : goal.returns-clause-first
 returns-clause-first c lowest lines held =
-    rw (c.in_ok-count.ensures.1, c.in_ok-ticks.ensures.1, c.in_ok-free_count.ensures.1)
+    rw (c.in_ok-count.ensures.1, c.in_ok-ticks.ensures.1, c.in_ok-free_count.ensures.1, c.from.ensures)
     (took_holds c.args.self.now c.args.cells.now lines held c.args.class lowest.within lowest.found (omega arith) lowest)

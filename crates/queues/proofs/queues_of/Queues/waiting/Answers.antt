@@ -1,19 +1,16 @@
-use Rattle.std.proofs.Common.{◌≡◌, refl, ap, arith}
+use Rattle.std.proofs.Common.{◌≡◌, ◌+◌, min, length, ap, ◌∙◌, rules, arith}
+use Rattle.std.proofs.lemmas.Iterator.{YieldsList-from_slice}
+use Rattle.std.proofs.lemmas.Iterator.Consumers.{fold_from_yields_List}
 use Rattle.queues.specs.Lines.{sum_to}
 use Rattle.queues.specs.Held.{queue_of}
-use Rattle.queues.proofs.EmptyLaws.{ticks-together, ticks_fit_all, sum_more}
+use Rattle.queues.proofs.EmptyLaws.{ticks-together, ticks_fit_all, ticks_added}
 use Rattle.queues.proofs.queues_of.Queues.waiting.Goals as goal
-
-pub loop-queue-init : goal.loop-queue-init
-unfolding sum_to
-loop-queue-init c = refl
-
-pub loop-queue-preserved : goal.loop-queue-preserved
-loop-queue-preserved c =
-    omega (arith, c.loop-queue.invariant, c.saturating_add-ticks.ensures, sum_more (λ d. (queue_of c.args.self.now d).ticks) c.loop-queue.queue-index)
 
 pub returns : goal.returns
 returns c cells lines held =
     let q = c.args.self.now in
-    let all : c.loop-queue.queue-index ≡ 8 = omega arith in
-    omega (arith, c.loop-queue.invariant, ap (λ n. sum_to n (λ d. (queue_of q d).ticks)) all, ticks-together q cells lines held, ticks_fit_all q cells lines held)
+    let added : c.fold.result ≡ min (0 + sum_to (length q.classes) (λ d. (queue_of q d).ticks)) 18446744073709551615 =
+    fold_from_yields_List _ (λ n x. min (n + x.ticks) 18446744073709551615) 0 c.fold.result c.fold.ensures.ran (YieldsList-from_slice q.classes c.iter.ensures.rest) (λ a x b r called. search rules)
+    ∙ ticks_added q.classes 0 (omega arith) in
+    let eight : length q.classes ≡ 8 = omega arith in
+    omega (arith, added, ap (λ n. sum_to n (λ d. (queue_of q d).ticks)) eight, ticks-together q cells lines held, ticks_fit_all q cells lines held)

@@ -1,12 +1,13 @@
-use Rattle.std.proofs.Common.{◌≡◌, length, refl, arith}
+use Rattle.std.proofs.Common.{◌≡◌, refl, arith}
 use Rattle.record_bytes.specs.Numbers.{value}
-use Rattle.record_bytes.proofs.Digits.{value_of_four}
+use Rattle.record_bytes.proofs.Digits.{value_of_four, whole_chunk}
 use Rattle.record_bytes.proofs.number.U32Number.from_bytes.Goals as goal
 
 pub returns : goal.returns
 returns c =
     let bytes = c.args.bytes.now in
-    let size : length bytes ≡ 4 = omega arith in
-    let is = value_of_four bytes size in
+    let whole = whole_chunk bytes c.in_ok-bytes.bytes 4 c.try_from.result c.try_from.ensures.1 c.in_ok-bytes.ensures.value in
+    let is = value_of_four bytes whole.0 in
+    let read = rw whole.1 at c.from_be_bytes.ensures in
     let same : c.from_be_bytes.result ≡ value bytes = omega arith in
-    rw (size, same) refl
+    rw (whole.0, same) refl

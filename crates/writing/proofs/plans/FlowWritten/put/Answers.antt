@@ -1,7 +1,8 @@
-use Rattle.std.proofs.Common.{◌≡◌, ◌++◌, length, take, vec_items, append_assoc, rules}
+use Rattle.std.proofs.Common.{◌≡◌, ◌++◌, length, take, vec_items, append_assoc, arith, rules}
 use Rattle.std.proofs.lemmas.List.{length-take-le}
 use Rattle.flows.specs.FlowFormat.{flow_bytes}
 use Rattle.flows.specs.Models.{flow_of}
+use Rattle.writing.proofs.Fronts.{begun_after, begun_not}
 use Rattle.writing.proofs.plans.FlowWritten.put.Goals as goal
 
 pub returns-clause-appended : goal.returns-clause-appended
@@ -23,3 +24,9 @@ returns-clause-appended c =
     )
     (simp append_assoc) in
     search rules
+
+pub returns-in_err-extend_from_slice-clause-begun : goal.returns-in_err-extend_from_slice-clause-begun
+returns-in_err-extend_from_slice-clause-begun c =
+    let flow = c.args.self.now in
+    let size : length (take flow.hops flow.road) ≡ flow.hops = length-take-le flow.hops flow.road flow.ports_listed in
+    rw size (grind (arith, begun_after, begun_not))
