@@ -1,1 +1,2 @@
 mod OutputLaws
+mod SentLaws

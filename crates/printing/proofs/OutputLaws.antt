@@ -41,6 +41,12 @@ pub told_on : (text : List ℕ) (rest : Option Printout) (whole : List ℕ) →
 told_on text None whole all = append-nil text ∙ all
 told_on text (Some p) whole all = all
 
+-- after what was said before, a part and what comes after it
+pub told_after : (said text : List ℕ) (before rest : Option Printout) (p : Printout) (whole : List ℕ) → before ≡ Some p →
+    MatchOption rest (text ≡ to_come p) (λ q. text ++ to_come q ≡ to_come p) → said ++ still_to_come before ≡ whole → said ++ (text ++ still_to_come rest) ≡ whole
+told_after said text before rest p whole is told all =
+    ap (λ xs. said ++ xs) (told_on text rest (to_come p) told) ∙ ap (λ o. said ++ still_to_come o) (sym is) ∙ all
+
 -- one record after the other
 pub all_next : (s : Standing) (done : Done) (bs rest : List ℕ) (e : Extent) (whole : Standing) → found e rest ≡ next_record bs →
     done ≡ step s e → after_all s (row bs) ≡ whole → after_all done.1 (row rest) ≡ whole

@@ -5,4 +5,5 @@ pub mod dues;
 pub mod print;
 pub mod printout;
 pub mod run;
+pub mod send;
 pub mod settle;
