@@ -25,6 +25,7 @@ impl Regulator<'_> {
         queues: &mut Queues,
         memory: &mut [Cell],
     ) -> Line
+        ensures fits { Fits waiting.now gate → Fits waiting.now result }
         ensures opens { (ls : List (List Packet)) → Fits waiting.now gate → Holds queues.old memory.old ls → Opens waiting.now result levels.new queues.new memory.new (opened (size memory.old) self.now.at_edge self.now.classes.now self.now.tick (waits waiting.now gate) (map level_model levels.old) ls) }
         ensures laws { GateLaws }
     {
@@ -46,6 +47,7 @@ impl Regulator<'_> {
         memory: &mut [Cell],
     ) -> Option<Line>
         ensures shorter { IfSome result (λ next. next.count < gate.count) }
+        ensures fits { Fits waiting.now gate → IfSome result (λ next. Fits waiting.now next) }
         ensures step { (ls : List (List Packet)) → Fits waiting.now gate → Holds queues.old memory.old ls → StepEnds (size memory.old) self.now.at_edge self.now.classes.now self.now.tick waiting.now gate result levels.new queues.new memory.new (opened (size memory.old) self.now.at_edge self.now.classes.now self.now.tick (waits waiting.now gate) (map level_model levels.old) ls) }
     {
         let first = gate.first(waiting)?;

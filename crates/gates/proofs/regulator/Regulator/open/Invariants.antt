@@ -9,9 +9,10 @@ use Rattle.gates.proofs.regulator.Regulator.open.Given as goal
 
 abbrev pub invariant-loop-rest : goal.invariant-loop-rest
 invariant-loop-rest l =
-    (ls : List (List Packet)) → Fits l.waiting l.fn.gate → Holds l.initial.queues l.initial.memory ls →
+    (Fits l.waiting l.fn.gate → Fits l.waiting l.left) ×
+    ((ls : List (List Packet)) → Fits l.waiting l.fn.gate → Holds l.initial.queues l.initial.memory ls →
     Ends (size l.initial.memory) l.self.at_edge l.self.classes.now l.self.tick l.waiting l.left l.levels l.queues l.memory
-    (opened (size l.initial.memory) l.self.at_edge l.self.classes.now l.self.tick (waits l.waiting l.fn.gate) (map level_model l.initial.levels) ls)
+    (opened (size l.initial.memory) l.self.at_edge l.self.classes.now l.self.tick (waits l.waiting l.fn.gate) (map level_model l.initial.levels) ls))
 
 abbrev pub decreases-loop-rest : goal.decreases-loop-rest
 decreases-loop-rest l = l.left.count
