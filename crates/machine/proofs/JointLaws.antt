@@ -24,7 +24,7 @@ module _ {A B : Type 0} (f : A → B) where
   line-map (l ∷ ls) zero = refl
   line-map (l ∷ ls) (suc c) = line-map ls c
 
-  put_map : (ls : List (List A)) (c : ℕ) (x : A) →
+  pub put_map : (ls : List (List A)) (c : ℕ) (x : A) →
       map (map f) (set ls c (get_or ls c [] ++ x ∷ [])) ≡ set (map (map f) ls) c (get_or (map (map f) ls) c [] ++ f x ∷ [])
   put_map ls c x =
       map-set (map f) ls c (get_or ls c [] ++ x ∷ [])

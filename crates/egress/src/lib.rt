@@ -1,0 +1,4 @@
+// One tick of one port, with the regulators before it.
+#![tactic(auto)]
+
+pub mod clock;
