@@ -11,6 +11,7 @@ use records::stage::Program;
 use std::alloc::Global;
 use std::io::{BufRead, BufReader, BufWriter, Write};
 
+// Kept apart from `run`, since a main may have no contract.
 fn main(rt: HostRuntime) -> anyhow::Result<()> {
     run(&rt)
 }

@@ -19,7 +19,7 @@ impl Net {
         }
     }
 
-    // The ports that there are.
+    // The ports that there are. As the memories, and the road of a flow, the beginning of a table: its owner alone knows how long.
     pub fn ports(&self) -> &[Port]
         ensures { result.now ≡ (net_of self.now).ports }
     {

@@ -1,4 +1,4 @@
-// Flows from bytes.
+// Flows from bytes. A reader and a net go together here alone: it is moved on, and the net only looked at.
 ghost use Rattle.std.specs.Prelude.{◌≡◌, ◌≤◌, [], take, length, OnErr};
 ghost use Rattle.record_bytes.specs.Answers.{cursor, part, verdict};
 ghost use Rattle.flows.specs.FlowFormat.{port_number, road_port, road_from, flow_from, flow_record, flow_bytes};
@@ -14,7 +14,7 @@ use record_bytes::kind::Kind;
 use record_bytes::piece::Piece;
 use record_bytes::reader::Reader;
 
-// All of a port, in millionths of it.
+// All of a port, in millionths of it; as 32 bits, of which rates are.
 const RATE_WHOLE: u32 = 1_000_000;
 
 // The number of a port of a net; nothing is taken where it is refused.

@@ -8,7 +8,7 @@ ghost use Rattle.levels.specs.Models.{level_model};
 use super::level::Level;
 use super::product::product;
 
-// Millionths in a tick: a rate of so many is all of a port.
+// Millionths in a tick: a rate of so many is all of a port. As in `promises`, on which levels do not stand.
 const DEN: u64 = 1_000_000;
 
 // Ticks in which any flow fills up: the largest burst at the lowest rate.

@@ -37,7 +37,8 @@ fn add_lines(text: &mut String, plan: &Plan, lines: &[Line]) -> Result<(), Alloc
 }
 
 impl<'a> Printout<'a> {
-    // All that a program prints for an input.
+    // All that a program prints for an input. Heap, program and input go together to where they are taken apart: a struct
+    // of the three would be made for one call.
     pub fn new(heap: Global, program: Program, input: &'a [u8]) -> Result<Self, AllocError>
         ensures { IfOk result (λ p. to_come p ≡ output program input.now) }
     {
@@ -83,6 +84,7 @@ pub fn whole_text(heap: Global, program: Program, input: &[u8]) -> Result<String
     all_parts(heap, Printout::new(heap, program, input)?)
 }
 
+// The parts in one text. The same loop sends them in `print`, where a part that fails leaves what was sent.
 fn all_parts(heap: Global, first: Printout) -> Result<String, AllocError>
     ensures { IfOk result (λ s. string_bytes s ≡ to_come first.entry) }
 {

@@ -12,6 +12,7 @@ pub fn send<W: Write>(bytes: &[u8], out: &mut W) -> io::Result<()>
     ensures begun { Begun (W.contents out.old) (W.contents out.new) bytes.now }
 {
     let mut rest = bytes;
+    // counted, since a loop that tries again whatever comes need not end
     for _ in 0..u64::MAX {
         if rest.is_empty() {
             return Ok(());

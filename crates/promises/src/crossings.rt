@@ -53,7 +53,7 @@ impl Pairs {
         }
     }
 
-    // What goes from one port directly to another.
+    // What goes from one port directly to another. A match, since with `map` and a closure the check did not find it.
     #[tactic(auto, using(crate::proofs::TableLaws::of_port))]
     pub fn pair(&self, p: u8, q: u8) -> Load
         ensures { load_model result ≡ pair_at (pairs_model self.now) p q }

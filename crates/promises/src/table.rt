@@ -81,6 +81,6 @@ impl Loads {
     pub fn at(&self, port: u8) -> Load
         ensures { load_model result ≡ slice_index_or (loads_model self.now) port no_load }
     {
-        self.ports.get(port).copied().unwrap_or(Load::none())
+        self.ports.get(port).copied().unwrap_or_default()
     }
 }

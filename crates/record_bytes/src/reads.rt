@@ -34,7 +34,8 @@ impl<'a> Reader<'a> {
         }
     }
 
-    // A number from low to high; nothing is taken where it is refused.
+    // A number from low to high; nothing is taken where it is refused. `kind` and a port's number read ahead likewise: each has
+    // a test and a fault of its own, which one function for all would have to be told.
     pub fn number_in<T: Number>(&mut self, low: u32, high: u32) -> Result<T, Fault>
         ensures value { part T.value result (cursor self.new) ≡ ranged T.SIZE low high (cursor self.old) }
         ensures inside { IfOk result (λ n. (low ≤ T.value n) × (T.value n ≤ high)) }

@@ -89,7 +89,8 @@ impl EdgeGate {
     }
 }
 
-// Who comes is put behind those who still wait after what may pass has passed, or is refused where these are 64.
+// Who comes is put behind those who still wait after what may pass has passed, or is refused where these are 64. What is
+// written is lent piece by piece, as to `Regulator::open`.
 fn judge(
     regulator: &Regulator,
     gate: Line,

@@ -7,7 +7,8 @@ use lines::counted::Counted;
 use lines::packet::Packet;
 
 // A regulator inside the net: what waits in its cells, the ticks that are set aside for it, and what comes in this tick.
-// No more ticks wait than are set aside.
+// No more ticks wait than are set aside, so with a cell for each and one more there is always one. How many ticks that is
+// stands beside the cells, as `aside` is what a packet is judged by.
 #[derive(Drop)]
 pub struct InnerGate {
     pub counted: Counted,

@@ -33,7 +33,7 @@ impl InnerGate {
         })
     }
 
-    // One more that comes in this tick. Where memory ends, it has not come.
+    // One more that comes in this tick, as at the edge. Where memory ends, it has not come.
     pub fn come(&mut self, coming: Coming) -> Result<(), AllocError>
         ensures waits { waits self.new.cells.items self.new.counted.line ≡ waits self.old.cells.items self.old.counted.line }
         ensures aside { self.new.aside ≡ self.old.aside }
@@ -53,6 +53,7 @@ impl InnerGate {
 
     // A tick: who comes is put behind the others, or is refused where with it more ticks would wait than are set aside; then
     // what may pass passes. The numbers of those refused go behind those that are there. Where memory ends, nothing changes.
+    // What is written is lent piece by piece, as to `Regulator::open`.
     pub fn tick(
         &mut self,
         classes: &[u8],
@@ -95,7 +96,8 @@ impl InnerGate {
     }
 }
 
-// Who comes is put behind the others, or is refused where with it more ticks would wait than are set aside.
+// Who comes is put behind the others, or is refused where with it more ticks would wait than are set aside. Unlike at the edge
+// nothing passes meanwhile, so levels and queues are not lent.
 fn judge(
     aside: u32,
     counted: &mut Counted,
@@ -127,7 +129,8 @@ fn accept(aside: u32, counted: Counted, cells: &mut [Packet], packet: Packet) ->
     counted.push(cells, packet)
 }
 
-// The line without its first packets, so that no more than so many are left.
+// The line without its first packets, so that no more than so many are left; one by one, since the ticks of each are counted
+// off.
 fn left_of(counted: Counted, cells: &[Packet], count: usize) -> Counted
     ensures { Fits cells.now counted.line → Counts cells.now counted → LeftOf cells.now counted count result }
 {
