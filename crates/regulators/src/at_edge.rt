@@ -1,5 +1,5 @@
 // A regulator at the edge has room for 64 packets besides those that may pass in the tick.
-ghost use Rattle.std.specs.Prelude.{◌≡◌, ◌+◌, ◌≤◌, true, ◌++◌, [], ◌∷◌, List, map, length, vec_len, vec_capacity, IsOk, OnOk, OnErr, IfOk};
+ghost use Rattle.std.specs.Prelude.{◌≡◌, ℕ, ◌+◌, ◌≤◌, true, ◌++◌, [], ◌∷◌, List, map, length, vec_len, vec_capacity, IsOk, OnOk, OnErr, IfOk};
 ghost use Rattle.lines.specs.Lines.{Fits, waits};
 ghost use Rattle.levels.specs.Models.{level_model};
 ghost use Rattle.queues.specs.Held.{Holds, size};
@@ -62,6 +62,7 @@ impl EdgeGate {
         refused: &mut Vec<u64>,
     ) -> Result<(), AllocError>
         ensures ticks { (ls : List (List Packet)) → Holds queues.old memory.old ls → OnOk result (Ticked self.new.cells.items self.new.line levels.new queues.new memory.new refused.new.items (behind refused.old.items (edge_tick (size memory.old) classes.now tick (waits self.old.cells.items self.old.line) (map level_model levels.old) ls self.old.coming.items))) }
+        ensures room { (n : ℕ) → vec_len refused.old + length self.old.coming.items + n ≤ vec_capacity refused.old → IsOk result × (vec_len refused.new + n ≤ vec_capacity refused.new) }
         ensures come { OnOk result (self.new.coming.items ≡ []) }
         ensures kept { OnErr result ((self.new ≡ self.old) × (levels.new ≡ levels.old) × (queues.new ≡ queues.old) × (memory.new ≡ memory.old) × (refused.new.items ≡ refused.old.items)) }
         ensures laws { EdgeLaws }
@@ -101,7 +102,7 @@ fn judge(
     memory: &mut [Cell],
     refused: &mut Vec<u64>,
 ) -> Result<Line, AllocError>
-    ensures done { vec_len refused.old + length coming.now ≤ vec_capacity refused.old → IsOk result }
+    ensures done { (n : ℕ) → vec_len refused.old + length coming.now + n ≤ vec_capacity refused.old → IsOk result × (vec_len refused.new + n ≤ vec_capacity refused.new) }
     ensures fits { Fits cells.old gate → IfOk result (Fits cells.new) }
     ensures judges { (ls : List (List Packet)) → regulator.now.at_edge ≡ true → Fits cells.old gate → length cells.old ≡ 64 → Holds queues.old memory.old ls → IfOk result (λ line. EdgeEnds (size memory.old) regulator.now.classes.now regulator.now.tick cells.new line levels.new queues.new memory.new refused.new.items [] (behind refused.old.items (edge_tick (size memory.old) regulator.now.classes.now regulator.now.tick (waits cells.old gate) (map level_model levels.old) ls coming.now))) }
 {

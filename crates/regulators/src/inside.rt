@@ -1,5 +1,5 @@
 // A regulator inside the net has so many ticks set aside.
-ghost use Rattle.std.specs.Prelude.{◌≡◌, ◌+◌, ◌≤◌, ◌++◌, [], ◌∷◌, List, map, length, vec_len, vec_capacity, IsOk, OnOk, OnErr, IfOk};
+ghost use Rattle.std.specs.Prelude.{◌≡◌, ℕ, ◌+◌, ◌≤◌, ◌++◌, [], ◌∷◌, List, map, length, vec_len, vec_capacity, IsOk, OnOk, OnErr, IfOk};
 ghost use Rattle.lines.specs.Lines.{Fits, waits};
 ghost use Rattle.lines.specs.Ticks.{Counts, ticks_of};
 ghost use Rattle.levels.specs.Models.{level_model};
@@ -64,6 +64,7 @@ impl InnerGate {
         refused: &mut Vec<u64>,
     ) -> Result<(), AllocError>
         ensures ticks { (ls : List (List Packet)) → Holds queues.old memory.old ls → OnOk result (Ticked self.new.cells.items self.new.counted.line levels.new queues.new memory.new refused.new.items (behind refused.old.items (inner_tick self.old.aside (size memory.old) classes.now tick (waits self.old.cells.items self.old.counted.line) (map level_model levels.old) ls self.old.coming.items))) }
+        ensures room { (n : ℕ) → vec_len refused.old + length self.old.coming.items + n ≤ vec_capacity refused.old → IsOk result × (vec_len refused.new + n ≤ vec_capacity refused.new) }
         ensures come { OnOk result (self.new.coming.items ≡ []) }
         ensures kept { OnErr result ((self.new ≡ self.old) × (levels.new ≡ levels.old) × (queues.new ≡ queues.old) × (memory.new ≡ memory.old) × (refused.new.items ≡ refused.old.items)) }
         ensures laws { InnerLaws }
@@ -105,7 +106,7 @@ fn judge(
     coming: &[Coming],
     refused: &mut Vec<u64>,
 ) -> Result<(), AllocError>
-    ensures done { vec_len refused.old + length coming.now ≤ vec_capacity refused.old → IsOk result }
+    ensures done { (n : ℕ) → vec_len refused.old + length coming.now + n ≤ vec_capacity refused.old → IsOk result × (vec_len refused.new + n ≤ vec_capacity refused.new) }
     ensures sound { Sound aside cells.old counted.old → Sound aside cells.new counted.new }
     ensures judges { Sound aside cells.old counted.old → OnOk result (InnerEnds aside cells.new counted.new refused.new.items [] (judged_behind refused.old.items (judged (inner_accepts aside) (waits cells.old counted.old.line) coming.now))) }
 {

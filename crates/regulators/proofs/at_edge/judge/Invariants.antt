@@ -1,4 +1,4 @@
-use Rattle.std.proofs.Common.{◌≡◌, ◌+◌, ◌-◌, ◌≤◌, true, List, map, length, drop, vec_len, vec_capacity}
+use Rattle.std.proofs.Common.{◌≡◌, ℕ, ◌+◌, ◌-◌, ◌≤◌, true, List, map, length, drop, vec_len, vec_capacity}
 use Rattle.lines.specs.declared.packet.Packet.{Packet}
 use Rattle.lines.specs.Lines.{Fits, waits}
 use Rattle.levels.specs.Models.{level_model}
@@ -10,7 +10,7 @@ use Rattle.regulators.proofs.at_edge.judge.Given as goal
 abbrev pub invariant-loop-one : goal.invariant-loop-one
 invariant-loop-one l =
     record {
-      room : vec_len l.initial.refused + length l.coming ≤ vec_capacity l.initial.refused → vec_len l.refused + (length l.coming - l.one-index) ≤ vec_capacity l.refused;
+      room : (n : ℕ) → vec_len l.initial.refused + length l.coming + n ≤ vec_capacity l.initial.refused → vec_len l.refused + (length l.coming - l.one-index) + n ≤ vec_capacity l.refused;
       fits : Fits l.initial.cells l.fn.gate → Fits l.cells l.line;
       ends : (ls : List (List Packet)) → l.regulator.at_edge ≡ true → Fits l.initial.cells l.fn.gate → length l.initial.cells ≡ 64 →
           Holds l.initial.queues l.initial.memory ls →

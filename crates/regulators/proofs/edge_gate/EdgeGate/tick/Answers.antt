@@ -23,3 +23,8 @@ returns-in_err-line-clause-laws c = edge_laws
 
 pub returns-in_err-reserve-clause-laws : goal.returns-in_err-reserve-clause-laws
 returns-in_err-reserve-clause-laws c = edge_laws
+
+pub returns-clause-room : goal.returns-clause-room
+returns-clause-room c n some =
+    let done = c.in_ok-line.ensures.done n (omega (arith, c.reserve.ensures.items, c.reserve.ensures.len, c.reserve.ensures.capacity, c.as_slice.ensures.len)) in
+    (refl, done.1)

@@ -1,4 +1,4 @@
-use Rattle.std.proofs.Common.{arith, List, subst, sym, ◌∙◌}
+use Rattle.std.proofs.Common.{refl, arith, List, subst, sym, ◌∙◌}
 use Rattle.std.proofs.lemmas.List.{with_items_is}
 use Rattle.lines.specs.declared.packet.Packet.{Packet}
 use Rattle.regulators.specs.Ticked.{Sound}
@@ -42,3 +42,8 @@ returns-in_err-judge-clause-laws c = inner_laws
 
 pub returns-in_err-reserve-clause-laws : goal.returns-in_err-reserve-clause-laws
 returns-in_err-reserve-clause-laws c = inner_laws
+
+pub returns-clause-room : goal.returns-clause-room
+returns-clause-room c n some =
+    let done = c.in_ok-judge.ensures.done n (omega (arith, c.reserve.ensures.items, c.reserve.ensures.len, c.reserve.ensures.capacity, c.as_slice.ensures.len)) in
+    (refl, done.1)
