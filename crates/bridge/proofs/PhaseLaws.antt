@@ -29,6 +29,7 @@ use Rattle.bridge.specs.Ports.{gone, port_tick, Stand, edge, inside, is_edge, Ga
 use Rattle.bridge.specs.Comes.{one_more, ComesTo}
 use Rattle.bridge.specs.Runs.{gate_model, egress_of, Runs, begins as starts, comes as one_comes, ticks}
 use Rattle.bridge.proofs.ExampleLaws.{worked}
+use Rattle.bridge.proofs.RoomLaws.{room_kept}
 use Rattle.bridge.proofs.RefusedLaws.{nobody_refused}
 use Rattle.bridge.specs.Laws.{numbers_of, EachDoes, none, also, TickIsPhases, Comes, PlaysOn, LeavesOn, LeavesInTime, QueuesKept, BridgeLaws}
 
@@ -227,6 +228,7 @@ bridge_laws =
       runs = λ a tick s enough run. (runs_play a tick s enough run).0;
       in_time = leaves_in_time;
       queues = queues_kept;
+      room = room_kept;
       nobody = nobody_refused;
       worked = worked;
       egress = egress_laws;

@@ -3,6 +3,7 @@ use Rattle.std.specs.Prelude.{◌≡◌, ℕ, List, ◌++◌, map, length, None,
 use Rattle.std.specs.Global.{Global}
 use Rattle.lines.specs.declared.packet.Packet.{Packet}
 use Rattle.lines.specs.Lines.{waits}
+use Rattle.lines.specs.Ticks.{ticks_of}
 use Rattle.levels.specs.declared.level.Level.{Level}
 use Rattle.levels.specs.Models.{level_model}
 use Rattle.queues.specs.declared.cell.Cell.{Cell}
@@ -31,6 +32,10 @@ edge_coming e = length e.gate.coming.items
 
 abbrev pub inside_coming : Inside → ℕ
 inside_coming i = length i.gate.coming.items
+
+-- the ticks that wait inside
+abbrev pub inside_ticks : Inside → ℕ
+inside_ticks i = ticks_of (waits i.gate.cells.items i.gate.counted.line)
 
 -- first those at the edge, then those inside
 abbrev pub gates_of : EgressPort → List GateState

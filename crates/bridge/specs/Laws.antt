@@ -1,8 +1,9 @@
--- What a port does in a tick are the phases of a tick at a port, and so all that is said of these holds of it. Assumes nothing.
+-- A tick of the code at a port is the phases of a tick there, and so all that is said of these holds of it. Assumes nothing.
 use Rattle.std.specs.Prelude.{◌≡◌, true, Some, ℕ, ◌+◌, ◌^◌, ◌<◌, ◌≤◌, List, [], ◌∷◌, ◌++◌, map, length, slice_index, slice_index_or}
 use Rattle.promises.specs.Promises.{promise, queue_need, regulator_need}
 use Rattle.std.specs.List.{AllByRecursion as Each}
 use Rattle.lines.specs.declared.packet.Packet.{Packet}
+use Rattle.lines.specs.Ticks.{ticks_of as ticks_waiting}
 use Rattle.queues.specs.Lines.{ticks_of, sum_to}
 use Rattle.port.specs.Port.{flow_at}
 use Rattle.machine.specs.Phases.{leaves}
@@ -13,7 +14,7 @@ use Rattle.egress.specs.Egress.{EgressModel, Accepted, numbered, come_phase, the
 use Rattle.egress.specs.Plays.{Setup, Enough, Belongs, MayCome, Moment, Plays, left, came, took, comes}
 use Rattle.egress.specs.Histories.{Directed, came_by, came_at}
 use Rattle.egress.specs.Laws.{SentBefore, GoesHere, EgressLaws}
-use Rattle.bridge.specs.Ports.{edge, inside, is_edge, GateState, PortState, tick_at, one_tick, port_tick, port_left, gone}
+use Rattle.bridge.specs.Ports.{Stand, edge, inside, is_edge, GateState, PortState, tick_at, one_tick, port_tick, port_left, gone}
 use Rattle.bridge.specs.Examples.{Worked}
 use Rattle.bridge.specs.Runs.{egress_of, Runs}
 
@@ -59,6 +60,31 @@ abbrev pub LeavesOn : Type 0
 LeavesOn =
     (a : Setup) (tick : ℕ) (s : PortState) → Plays a took (egress_of tick s) → Plays a left (egress_of (tick + 1) (port_left (tick + 1) s))
 
+-- So every state to which the code comes is one of a run of phases.
+abbrev pub RunsPlay : Type 0
+RunsPlay = (a : Setup) (tick : ℕ) (s : PortState) → Enough a → Runs a tick s → Plays a left (egress_of tick s)
+
+-- A packet that entered the net at this port leaves within what the port promises its class, counted from its pass.
+abbrev pub LeavesInTime : Type 0
+LeavesInTime =
+    (a : Setup) (tick : ℕ) (s : PortState) (packet : Packet) → Enough a → Runs a tick s → tick + 255 < 2 ^ 64 → a.enters packet.flow ≡ true →
+    gone (leaves (tick + 1) (port_tick a.room a.classes tick s).port.sending) ≡ Some packet →
+    tick + 1 ≤ packet.edge + promise a.port (flow_at a.flows packet.flow).class a.flows
+
+-- What waits in the queues of classes up to c keeps within what these need.
+abbrev pub QueuesKept : Type 0
+QueuesKept =
+    (a : Setup) (tick : ℕ) (s : PortState) (c : ℕ) → Enough a → Runs a tick s →
+    sum_to (c + 1) (λ d. ticks_of (slice_index_or s.queues d [])) ≤ queue_need a.port c a.flows
+
+-- At the edge no more than 64 packets wait, and inside no more ticks than are set aside.
+abbrev pub Roomy : Stand → List Packet → Type 0
+Roomy (edge flow) waits = length waits ≤ 64
+Roomy (inside from class aside) waits = ticks_waiting waits ≤ aside
+
+abbrev pub RoomKept : Type 0
+RoomKept = (a : Setup) (tick : ℕ) (s : PortState) → Runs a tick s → Each (λ (g : GateState). Roomy g.stand g.waits) s.gates
+
 -- the regulator at a place, and rows of all who come in this tick
 abbrev pub no_gate : GateState
 no_gate = record { stand = edge 0; waits = []; coming = [] }
@@ -80,7 +106,7 @@ pub record AsPromised (a : Setup) (to : ℕ → ℕ) (k from class wire : ℕ) (
   pub before : SentBefore a k (promise from class a.flows + wire) sent m e plays
   pub late : (n : ℕ) → n < length (came_at a k plays) → sent n + wire ≤ slice_index (came_at a k plays) n
 
--- Then a regulator inside with as many ticks set aside as it needs refuses nobody.
+-- Then a regulator inside with as many ticks set aside as it needs refuses nobody, if all who come are accepted elsewhere too.
 abbrev pub NobodyRefused : Type 0
 NobodyRefused =
     (a : Setup) (tick : ℕ) (s : PortState) (plays : Plays a left (egress_of tick s)) (some : Each (MayCome a) (all_come s))
@@ -89,23 +115,6 @@ NobodyRefused =
     AsPromised a to k from class wire sent came (come_phase (all_come s) (egress_of tick s)) (comes (all_come s) plays some) →
     (one_tick a.room a.classes tick (gate_here s.gates k) levels queues).refused ≡ []
 
--- So every state to which the code comes is one of a run of phases.
-abbrev pub RunsPlay : Type 0
-RunsPlay = (a : Setup) (tick : ℕ) (s : PortState) → Enough a → Runs a tick s → Plays a left (egress_of tick s)
-
--- A packet that entered the net at this port leaves within what the port promises its class, counted from its pass.
-abbrev pub LeavesInTime : Type 0
-LeavesInTime =
-    (a : Setup) (tick : ℕ) (s : PortState) (packet : Packet) → Enough a → Runs a tick s → tick + 255 < 2 ^ 64 → a.enters packet.flow ≡ true →
-    gone (leaves (tick + 1) (port_tick a.room a.classes tick s).port.sending) ≡ Some packet →
-    tick + 1 ≤ packet.edge + promise a.port (flow_at a.flows packet.flow).class a.flows
-
--- What waits in the queues of classes up to c keeps within what these need.
-abbrev pub QueuesKept : Type 0
-QueuesKept =
-    (a : Setup) (tick : ℕ) (s : PortState) (c : ℕ) → Enough a → Runs a tick s →
-    sum_to (c + 1) (λ d. ticks_of (slice_index_or s.queues d [])) ≤ queue_need a.port c a.flows
-
 pub record BridgeLaws : Type 0 where
   pub phases : (room : ℕ) (classes : List ℕ) (tick : ℕ) (s : PortState) → TickIsPhases room classes tick s
   pub plays : PlaysOn
@@ -113,6 +122,7 @@ pub record BridgeLaws : Type 0 where
   pub runs : RunsPlay
   pub in_time : LeavesInTime
   pub queues : QueuesKept
+  pub room : RoomKept
   pub nobody : NobodyRefused
   pub worked : Worked
   pub egress : EgressLaws

@@ -1,7 +1,7 @@
 -- The states to which the code at a port comes. Assumes nothing.
 use Rattle.std.specs.Prelude.{◌≡◌, ℕ, ◌+◌, ◌^◌, ◌<◌, Bool, List, [], map, replicate, None}
 use Rattle.std.specs.List.{AllByRecursion as Each}
-use Rattle.levels.specs.Levels.{full_level}
+use Rattle.levels.specs.Levels.{LevelModel, full_level}
 use Rattle.regulators.specs.declared.coming.Coming.{Coming}
 use Rattle.egress.specs.Egress.{GateModel, EgressModel}
 use Rattle.egress.specs.Plays.{Setup, Belongs, empty_gates}
@@ -26,6 +26,17 @@ pub record AtStart (a : Setup) (s : PortState) : Type 0 where
   pub levels : s.levels ≡ map (λ f. full_level f.burst f.rate) a.flows
   pub queues : s.queues ≡ replicate 8 []
   pub sending : s.sending ≡ None
+
+-- a regulator at which nothing waits and nobody comes
+pub record Vacant (g : GateState) : Type 0 where
+  pub waits : g.waits ≡ []
+  pub coming : g.coming ≡ []
+
+-- with vacant regulators of these kinds and full levels a port is at its start
+abbrev pub StartsWith : List GateState → List LevelModel → PortState → Type 0
+StartsWith gates levels s =
+    (a : Setup) → map (λ (g : GateState). is_edge g.stand) gates ≡ a.edges → Each Vacant gates →
+    levels ≡ map (λ f. full_level f.burst f.rate) a.flows → AtStart a s
 
 abbrev pub with_gates : PortState → List GateState → PortState
 with_gates s gates = record { gates = gates; levels = s.levels; queues = s.queues; sending = s.sending }

@@ -8,3 +8,4 @@ pub mod egress_port;
 pub mod leave;
 pub mod regulated;
 pub mod ticks;
+pub mod waiting;

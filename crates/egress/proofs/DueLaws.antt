@@ -28,7 +28,7 @@ module _ (flow : ℕ) where
   front-due due (w ∷ ws) xs [] us same in_due = tt
   front-due due (w ∷ ws) xs (t ∷ ts) us same in_due = (in_due.0, front-due due ws xs ts us (omega arith) in_due.1)
 
-  back-due : (due : ℕ) (ws xs : List Packet) (ts us : List ℕ) → length ws ≡ length ts → InDue flow due (ws ++ xs) (ts ++ us) → InDue flow due xs us
+  pub back-due : (due : ℕ) (ws xs : List Packet) (ts us : List ℕ) → length ws ≡ length ts → InDue flow due (ws ++ xs) (ts ++ us) → InDue flow due xs us
   back-due due [] xs [] us same in_due = in_due
   back-due due [] xs (t ∷ ts) us same in_due = absurd (omega arith)
   back-due due (w ∷ ws) xs [] us same in_due = absurd (omega arith)

@@ -1,0 +1,14 @@
+pub mod RoadLaws
+pub mod SetupLaws
+pub mod SendLaws
+pub mod PlayLaws
+pub mod WireLaws
+pub mod TogetherLaws
+pub mod AlongLaws
+pub mod EndLaws
+pub mod MomentLaws
+pub mod SourceLaws
+pub mod LineLaws
+pub mod RoadLineLaws
+pub mod ExampleLaws
+pub mod NetworkLaws
