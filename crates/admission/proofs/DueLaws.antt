@@ -53,7 +53,7 @@ found_too P (g ∷ gs) n f all e = by (eqb g.number n) e (found_too P gs n f all
     by true got more = let same : g.flow ≡ f = cc in subst P same all.0
     by false got more = more got
 
-none_told : (o : Option Refusal) → is_none o ≡ true → o ≡ None
+pub none_told : (o : Option Refusal) → is_none o ≡ true → o ≡ None
 none_told None is = refl
 none_told (Some r) is = absurd (false≢true is)
 

@@ -60,7 +60,7 @@ module _ (flow : ℕ) where
 
   -- those that go on
   module _ (flows : List FlowModel) (p q : ℕ) where
-    beside-due : (due : ℕ) (ws rest : List Packet) (es : List ℕ) → InDue flow due (ws ++ rest) es → InDue flow due (onward flows p q ws) (beside flows p q ws es)
+    pub beside-due : (due : ℕ) (ws rest : List Packet) (es : List ℕ) → InDue flow due (ws ++ rest) es → InDue flow due (onward flows p q ws) (beside flows p q ws es)
     unfolding onward beside
     beside-due due [] rest es in_due = tt
     beside-due due (w ∷ ws) rest [] in_due = none (cond (goes p q (flow_at flows w.flow).road) (w ∷ onward flows p q ws) (onward flows p q ws))
@@ -74,7 +74,7 @@ module _ (flow : ℕ) where
           | inr off ↦ rw off (beside-due due ws rest es in_due.1)
         ]
 
-    beside_length : (ws : List Packet) (es : List ℕ) → length ws ≤ length es → length (onward flows p q ws) ≤ length (beside flows p q ws es)
+    pub beside_length : (ws : List Packet) (es : List ℕ) → length ws ≤ length es → length (onward flows p q ws) ≤ length (beside flows p q ws es)
     unfolding onward beside
     beside_length [] es fewer = omega arith
     beside_length (w ∷ ws) [] fewer = absurd (omega arith)

@@ -21,4 +21,5 @@ pub struct Flow {
     ghost ports_listed: { hops ≤ length road },
     ghost ports_known: { (k : ℕ) → k < hops → slice_index road k < 64 },
     ghost burst_short: { burst ≤ 65535 },
+    ghost longest_byte: { longest ≤ 255 },
 }

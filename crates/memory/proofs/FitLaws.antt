@@ -1,5 +1,5 @@
 -- Promises and needs of flows that can be admitted fit 64 bits. Assumes nothing.
-use Rattle.std.proofs.Common.{◌≡◌, ℕ, zero, suc, ◌+◌, ◌-◌, ◌*◌, ◌<◌, ◌≤◌, Bool, true, false, cond, ◌&&◌, eqb, leb, ltb, List, [], ◌∷◌, length, refl, inl, inr, add-mul, div-mul-le_self, arith}
+use Rattle.std.proofs.Common.{◌≡◌, ℕ, zero, suc, ◌+◌, ◌-◌, ◌*◌, ◌<◌, ◌≤◌, Bool, true, false, cond, ◌&&◌, eqb, leb, ltb, List, [], ◌∷◌, length, get_or, refl, ap₂, ◌∙◌, inl, inr, add-mul, div-mul-le_self, arith}
 use Rattle.std.proofs.Math.Nat.{div-le_of_le-mul, div-le_self}
 use Rattle.std.specs.List.{AllByRecursion as Each}
 use Rattle.std.proofs.lemmas.Nat.{mul-le}
@@ -7,10 +7,12 @@ use Rattle.std.proofs.lemmas.Bool.{cases_lt, and_parts, and_from}
 use Rattle.flows.specs.Net.{NetModel, port_at}
 use Rattle.flows.specs.Flow.{FlowModel}
 use Rattle.promises.specs.Promises.{den, over, before, bursts, long, goes, windowed, promise, regulator_need}
+use Rattle.promises.specs.Loads.{no_load, pair_at}
 use Rattle.promises.specs.Laws.{Bounded}
+use Rattle.memory.specs.Needs.{class_need}
 use Rattle.memory.specs.Plans.{class_plan, regulator_plan, port_plan, switch_plan}
-use Rattle.memory.specs.Fit.{Short, Admissible, PromiseFits, WindowFits, SwitchFits, NeedsFit}
-use Rattle.memory.proofs.NeedLaws.{rates_in, rates_among, goes_over, no_window}
+use Rattle.memory.specs.Fit.{Short, Admissible, PromiseFits, WindowFits, SwitchFits, NeedsFit, AsideKept}
+use Rattle.memory.proofs.NeedLaws.{rates_in, rates_among, goes_over, no_window, class-kept}
 
 -- a number that counts or not
 part : (b : Bool) (x : ℕ) → cond b x 0 ≤ x
@@ -107,3 +109,11 @@ switch_fits net s n fs admissible few = omega (arith, switch-within fs admissibl
 
 pub needs_fit : NeedsFit
 needs_fit = record { promise = promise_fits; window = window_fits; switch = switch_fits }
+
+pub aside_kept : AsideKept
+aside_kept loads pairs fs kept between admissible p q c first second low =
+    let is : class_need (get_or loads p no_load) (pair_at pairs p q) c ≡ regulator_need p q c fs =
+    ap₂ (λ x y. class_need x y c) (kept p first) (between p q first second)
+    ∙ class-kept p q c fs admissible.classed admissible.rated (admissible.room p) low in
+    let small = regulator-within fs admissible p q c in
+    omega arith

@@ -67,7 +67,7 @@ no_window p q c w (f ∷ fs) rated none =
         absurd (omega (arith, rated.0))
 
 -- a regulator's need by the sums that are kept
-class-kept : (p q c : ℕ) (fs : List FlowModel) → Each Classed fs → Each Rated fs → rates p fs ≤ den → c ≤ 7 →
+pub class-kept : (p q c : ℕ) (fs : List FlowModel) → Each Classed fs → Each Rated fs → rates p fs ≤ den → c ≤ 7 →
     class_need (load_of p no_load fs) (pair_of p q no_load fs) c ≡ regulator_need p q c fs
 class-kept p q c fs low rated room small =
     elim (cases_lt (before p c fs) den) [

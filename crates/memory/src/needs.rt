@@ -6,7 +6,7 @@ ghost use Rattle.flows.specs.Models.{net_of};
 ghost use Rattle.promises.specs.Models.{load_model, loads_model, pairs_model};
 ghost use Rattle.memory.specs.Plans.{NeedsKept};
 ghost use Rattle.memory.specs.Growth.{GrowthLaws};
-ghost use Rattle.memory.specs.Fit.{NeedsFit};
+ghost use Rattle.memory.specs.Fit.{NeedsFit, aside_by, AsideKept};
 ghost use Rattle.memory.specs.Needs.{ticks_within, class_need, class_needs, regulator_needs, whole_need, switch_needs};
 
 use flows::net::Net;
@@ -37,6 +37,17 @@ fn class_need(port: &Load, pair: &Load, class: u8) -> u128
     }
     let window = port.promise(class).unwrap_or(0);
     ticks_within(asked.bursts, asked.rates, window)
+}
+
+// What is set aside for the regulator of a class between two ports: what it needs, and where that does not fit 32 bits the
+// largest number that does. The law says that of flows that can be admitted it is what they need.
+#[tactic(auto, using(crate::proofs::FitLaws::aside_kept))]
+pub fn regulator_need(demand: &Demand, from: u8, to: u8, class: u8) -> u32
+    ensures value { result ≡ aside_by (loads_model demand.now.loads) (pairs_model demand.now.pairs) from to class }
+    ensures law { AsideKept }
+{
+    let need = class_need(&demand.loads.at(from), &demand.pairs.pair(from, to), class);
+    u32::try_from(need).unwrap_or(u32::MAX)
 }
 
 // The regulators of all classes between two ports.

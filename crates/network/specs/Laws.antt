@@ -1,5 +1,5 @@
 -- What a whole net keeps, whatever its roads, also where ports wait for each other around a ring. Assumes nothing.
-use Rattle.std.specs.Prelude.{◌≡◌, ℕ, suc, ◌+◌, ◌-◌, ◌^◌, ◌<◌, ◌≤◌, true, List, [], ◌∷◌, ◌++◌, length, slice_index}
+use Rattle.std.specs.Prelude.{◌≡◌, ℕ, suc, ◌+◌, ◌-◌, ◌^◌, ◌<◌, ◌≤◌, true, List, [], ◌∷◌, ◌++◌, length, slice_index, slice_index_or}
 use Rattle.std.specs.List.{AllByRecursion as Each}
 use Rattle.flows.specs.Net.{NetModel, port_at}
 use Rattle.flows.specs.Flow.{FlowModel, SoundFlow}
@@ -12,7 +12,7 @@ use Rattle.machine.specs.Phases.{leaves}
 use Rattle.port.specs.Port.{flow_at}
 use Rattle.egress.specs.Egress.{EgressModel, gate_at}
 use Rattle.egress.specs.Plays.{Moment, left, passed, Plays}
-use Rattle.egress.specs.Histories.{Directed, left_in, left_at, came_at, passed_at, sent_on}
+use Rattle.egress.specs.Histories.{Directed, being_sent, left_in, left_at, came_at, passed_at, sent_on}
 use Rattle.egress.specs.Laws.{ComesFrom, InDue}
 use Rattle.network.specs.Admitted.{Admitted}
 use Rattle.network.specs.Examples.{GoesRound}
@@ -36,7 +36,7 @@ PlaysTogether =
     Together net fs last (λ t p. (net_left net fs rows t).port p)
 
 -- Where ports play together, the last bit of each packet has left each port of its road within what its flow is due up to there, counted
--- from its mark, the tick at which it passed the edge.
+-- from its mark, the tick at which it passed the edge;
 abbrev pub AlongRoads : Type 0
 AlongRoads =
     (net : NetModel) (fs : List FlowModel) (last : ℕ) (port : ℕ → ℕ → EgressModel) (run : Together net fs last port) →
@@ -45,6 +45,28 @@ AlongRoads =
     InDue flow (due_over net fs (flow_at fs flow).class (before ++ p ∷ []))
     (left_in (setup_of net fs p) (flow_at fs flow).class (run.plays t p until))
     (left_at (setup_of net fs p) (flow_at fs flow).class (run.plays t p until))
+
+-- each that is being sent or waits in the queue of a port has time still,
+abbrev pub RoadsOnTime : Type 0
+RoadsOnTime =
+    (net : NetModel) (fs : List FlowModel) (last : ℕ) (port : ℕ → ℕ → EgressModel) (run : Together net fs last port) →
+    Each (SoundFlow net) fs → Fits net fs → (t flow p : ℕ) (before after : List ℕ) (until : t ≤ last) → flow < length fs →
+    (flow_at fs flow).road ≡ before ++ p ∷ after →
+    Each (λ w. w.flow ≡ flow → (port t p).machine.tick < w.edge + due_over net fs (flow_at fs flow).class (before ++ p ∷ []))
+    (being_sent (setup_of net fs p).classes (flow_at fs flow).class (port t p).machine.sending ++
+    slice_index_or (port t p).machine.queues (flow_at fs flow).class [])
+
+-- and each that waits behind the regulator of the next port is not past the tick by which it passes there.
+abbrev pub RegulatorsOnTime : Type 0
+RegulatorsOnTime =
+    (net : NetModel) (fs : List FlowModel) (last : ℕ) (port : ℕ → ℕ → EgressModel) (run : Together net fs last port) →
+    Each (SoundFlow net) fs → Fits net fs → (t flow p q : ℕ) (before after : List ℕ) (until : t ≤ last) → flow < length fs →
+    (flow_at fs flow).road ≡ before ++ p ∷ q ∷ after →
+    Each
+    (λ w.
+    w.flow ≡ flow →
+    (port t q).machine.tick ≤ w.edge + (due_over net fs (flow_at fs flow).class (before ++ p ∷ []) + (port_at net p).wire))
+    (gate_at (port t q).gates (inner_gate fs p (flow_at fs flow).class)).waits
 
 -- So in the net: a packet whose last bit leaves a port of its road in a tick does so within what its flow is due up to there, whatever
 -- else is sent;
@@ -131,6 +153,8 @@ NobodyLost =
 pub record NetworkLaws : Type 0 where
   pub together : PlaysTogether
   pub along : AlongRoads
+  pub on_time : RoadsOnTime
+  pub waits : RegulatorsOnTime
   pub ends : EndToEnd
   pub deadline : BeforeDeadline
   pub delivered : DeliveredInTime

@@ -1,0 +1,4 @@
+pub mod StartLaws
+pub mod RegulatedLaws
+pub mod OrderLaws
+pub mod PlanLaws
