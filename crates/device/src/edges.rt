@@ -19,6 +19,7 @@ pub(crate) fn edges_of(heap: Global, flows: &[Numbered], port: u8) -> Result<Vec
     ensures { IfOk result (λ edges. map edge_state edges.items ≡ map at_rest (edges_from port 0 (flows_of (map numbered_model flows.now)))) }
 {
     let mut edges = Vec::new(heap);
+    // a place is below 256: `try_from` would have a case that never comes
     for (place, numbered) in flows.iter().enumerate() {
         add_edge(heap, place as u16, &numbered.flow, port, &mut edges)?;
     }

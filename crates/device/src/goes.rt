@@ -25,7 +25,7 @@ fn is_between(flow: &Flow, from: u8, to: u8, class: u8) -> bool
     flow.class == class && goes(flow.road(), from, to)
 }
 
-// Whether a road goes from one port directly to another.
+// Whether a road goes from one port directly to another. Step by step, as `Net::has_road`: a port is judged by what is behind it.
 #[tactic(auto, using(crate::proofs::StartLaws::goes_step), unfolding(promises::specs::Promises::goes))]
 fn goes(road: &[u8], from: u8, to: u8) -> bool
     ensures { result ≡ goes from to road.now }

@@ -12,7 +12,6 @@ use super::levels_of::levels_of;
 use admission::plan::Plan;
 use bridge::egress_port::EgressPort;
 use queues::cell::Cell;
-use queues::queues_of::Queues;
 use std::alloc::{AllocError, Global};
 
 // The port of this number, with a regulator for each flow that enters the net there, one for each port before and class
@@ -35,13 +34,7 @@ pub fn port_of(
     let edges = edges_of(heap, flows, port)?;
     let inside = inside_of(heap, plan, port)?;
     let levels = levels_of(heap, flows)?;
-    Ok(EgressPort {
-        edges,
-        inside,
-        levels,
-        queues: Queues::empty(memory),
-        sending: None,
-    })
+    Ok(EgressPort::new(edges, inside, levels, memory))
 }
 
 // The class of each admitted flow, by its place.
