@@ -1,5 +1,5 @@
 -- What a plan keeps of its flows, as tests. Assumes nothing.
-use Rattle.std.specs.Prelude.{ℕ, zero, suc, Bool, true, ◌&&◌, List, [], ◌∷◌, Some, None, Option, slice_index_or}
+use Rattle.std.specs.Prelude.{ℕ, zero, suc, Bool, true, ◌&&◌, List, [], ◌∷◌, slice_index_or}
 use Rattle.std.specs.Str.{bytes_eq}
 use Rattle.std.specs.Option.{is_none}
 use Rattle.flows.specs.Net.{NetModel}
@@ -31,11 +31,6 @@ keeps_pairs pairs fs = all_below (λ p. all_below (λ q. same_load (pair_at pair
 -- so that a demand is that of the flows
 abbrev pub keeps_demand : Demand → List FlowModel → Bool
 keeps_demand demand fs = keeps_loads (loads_model demand.loads) fs && keeps_pairs (pairs_model demand.pairs) fs
-
--- a test of something that need not be there
-abbrev pub if_any : Option Bool → Bool
-if_any None = true
-if_any (Some passed) = passed
 
 -- all flows have roads through the net
 unfoldable pub all_roads : NetModel → List FlowModel → Bool

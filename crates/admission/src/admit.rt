@@ -1,5 +1,5 @@
 // Admission of flows, one after the other.
-ghost use Rattle.std.specs.Prelude.{◌≡◌, None, IfOk, MatchOption};
+ghost use Rattle.std.specs.Prelude.{◌≡◌, IfOk};
 ghost use Rattle.flows.specs.Models.{net_of};
 ghost use Rattle.admission.specs.Plans.{plan_of, empty_plan, Answered};
 ghost use Rattle.admission.specs.Models.{numbered_model};
@@ -10,7 +10,7 @@ use super::refusal::{NotAdmitted, Numbered, Refusal};
 use super::tests_of::MOST_FLOWS;
 use flows::net::Net;
 use promises::demand::Demand;
-use std::alloc::{AllocError, AllocFailed, Global};
+use std::alloc::{AllocError, Global};
 
 impl Plan {
     // A net to which no flow is admitted.
@@ -18,11 +18,12 @@ impl Plan {
         ensures { IfOk result (λ p. plan_of p ≡ empty_plan (net_of net)) }
     {
         let demand = Box::new(heap, Demand::none())?;
+        let tried = Box::new(heap, Demand::none())?;
         Ok(Plan {
             net,
             flows: Vec::new(heap),
             demand,
-            tried: None,
+            tried,
         })
     }
 
@@ -36,36 +37,23 @@ impl Plan {
         if self.flows.len() >= MOST_FLOWS {
             return Err(Refusal::Crowded.into());
         }
-        let mut tried = copy_to_try_on(&mut self.tried, &self.demand)?;
         self.flows.push(new)?;
         // With so few flows no sum passes 32 bits, and none is missing. By `let`, since what the plan keeps where `ok_or`
         // and `?` return could be proved only under a name that the check makes up.
-        let Some(()) = tried.as_mut().add(&new.flow) else {
+        let Some(()) = self.tried.as_mut().add(&new.flow) else {
             return Err(Refusal::Crowded.into());
         };
-        let judged = judge(&self.net, tried.as_ref(), self.flows.as_slice());
+        let judged = judge(&self.net, self.tried.as_ref(), self.flows.as_slice());
         if let Err(refusal) = judged {
             self.flows.pop();
-            tried.as_mut().follow(self.demand.as_ref(), new.flow.road());
-            self.tried = Some(tried);
+            self.tried
+                .as_mut()
+                .follow(self.demand.as_ref(), new.flow.road());
             return Err(refusal.into());
         }
-        self.demand.as_mut().follow(tried.as_ref(), new.flow.road());
-        self.tried = Some(tried);
+        self.demand
+            .as_mut()
+            .follow(self.tried.as_ref(), new.flow.road());
         Ok(())
     }
-}
-
-// What a flow is tried on: the copy that is there, which is taken, or a first one.
-fn copy_to_try_on(
-    tried: &mut Option<Box<Demand>>,
-    demand: &Box<Demand>,
-) -> Result<Box<Demand>, AllocFailed<Demand>>
-    ensures taken { tried.new ≡ None }
-    ensures copied { IfOk result (λ copy. MatchOption tried.old (copy.value ≡ demand.now.value) (λ there. copy ≡ there)) }
-{
-    if let Some(there) = tried.take() {
-        return Ok(there);
-    }
-    Box::new(*Box::allocator(demand), *demand.as_ref())
 }

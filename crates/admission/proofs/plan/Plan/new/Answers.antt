@@ -11,12 +11,14 @@ use Rattle.admission.proofs.plan.Plan.new.Goals as goal
 pub invariant_of-result : goal.invariant_of-result
 unfolding all_roads
 invariant_of-result c =
-    let empty = c.new-2.ensures.items in
+    let empty = c.new-3.ensures.items in
     let demand = c.in_ok-demand.ensures.ok in
+    let tried = c.in_ok-tried.ensures.ok in
     record {
       demand_kept = ap (λ ns. keeps_demand (box_value c.in_ok-demand.demand) (flows_of (map numbered_model ns))) empty
           ∙ none_kept (box_value c.in_ok-demand.demand) (ap (λ (d : Demand). loads_model d.loads) demand ∙ c.none.ensures.loads) (ap (λ (d : Demand). pairs_model d.pairs) demand ∙ c.none.ensures.pairs);
-      tried_kept = refl;
+      tried_kept = ap (λ ns. keeps_demand (box_value c.in_ok-tried.tried) (flows_of (map numbered_model ns))) empty
+          ∙ none_kept (box_value c.in_ok-tried.tried) (ap (λ (d : Demand). loads_model d.loads) tried ∙ c.none-2.ensures.loads) (ap (λ (d : Demand). pairs_model d.pairs) tried ∙ c.none-2.ensures.pairs);
       on_roads = rw empty refl;
       fits = rw empty (none_passes _);
     }
