@@ -223,10 +223,10 @@ module _ (plan : Plan) (n : Numbered) (leading : leads (net_of plan.net) (flow_o
     between-more : PairsOf (pairs_model d.pairs) (fs ++ f ∷ [])
     between-more = (pairs-kept (pairs_model tried.pairs) (pairs_model d.pairs) fs f (square tried) route.once low_ports tried-kept.1 grown.1).1
 
-    sums_more : Kept (loads_model d.loads) (flows_of (gs ++ numbered_model n ∷ []))
+    pub sums_more : Kept (loads_model d.loads) (flows_of (gs ++ numbered_model n ∷ []))
     sums_more = subst (Kept (loads_model d.loads)) (sym more) kept-more
 
-    pairs-more : PairsOf (pairs_model d.pairs) (flows_of (gs ++ numbered_model n ∷ []))
+    pub pairs-more : PairsOf (pairs_model d.pairs) (flows_of (gs ++ numbered_model n ∷ []))
     pairs-more = subst (PairsOf (pairs_model d.pairs)) (sym more) between-more
 
     -- what is kept, after what was tried along the road, is of the flows with it; and what was tried, after what is kept, of those without
@@ -260,15 +260,20 @@ module _ (plan : Plan) (n : Numbered) (leading : leads (net_of plan.net) (flow_o
         ∙ admission_laws.judged (net_of net) (loads_model d.loads) (pairs_model d.pairs) (gs ++ numbered_model n ∷ []) (ports-few net) routed sums_more pairs-more
 
     -- what was judged of the flows with it is what the rules say
-    pub tested_told : (ys zs : List Numbered) → zs ≡ ys → ys ≡ ns ++ n ∷ [] → (r : Option Refusal) →
+    pub judged-tested : (ys zs : List Numbered) → zs ≡ ys → ys ≡ ns ++ n ∷ [] → (r : Option Refusal) →
         r ≡ judged (net_of net) net.count net.switches (loads_model d.loads) (pairs_model d.pairs) (map numbered_model zs) →
-        tested (plan_of plan) (numbered_model n) ≡ r
-    tested_told ys zs same is r told =
-        tested_on (plan_of plan) (numbered_model n) leading ∙ sym judged-more
+        refusal_of (net_of net) (gs ++ numbered_model n ∷ []) ≡ r
+    judged-tested ys zs same is r told =
+        sym judged-more
         ∙ ap (judged (net_of net) net.count net.switches (loads_model d.loads) (pairs_model d.pairs)) (sym (ap (map numbered_model) same ∙ pushed ns ys n is))
         ∙ sym told
 
-  roads_more : all_roads (net_of net) (flows_of (gs ++ numbered_model n ∷ [])) ≡ true
+    pub tested_told : (ys zs : List Numbered) → zs ≡ ys → ys ≡ ns ++ n ∷ [] → (r : Option Refusal) →
+        r ≡ judged (net_of net) net.count net.switches (loads_model d.loads) (pairs_model d.pairs) (map numbered_model zs) →
+        tested (plan_of plan) (numbered_model n) ≡ r
+    tested_told ys zs same is r told = tested_on (plan_of plan) (numbered_model n) leading ∙ judged-tested ys zs same is r told
+
+  pub roads_more : all_roads (net_of net) (flows_of (gs ++ numbered_model n ∷ [])) ≡ true
   roads_more = ap (all_roads (net_of net)) more ∙ keep.roads_more (net_of net) fs f plan.on_roads leading
 
   -- what is kept of the flows after a refusal, and after admission
