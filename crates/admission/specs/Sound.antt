@@ -1,5 +1,5 @@
 -- What a plan keeps of its flows, as tests. Assumes nothing.
-use Rattle.std.specs.Prelude.{ℕ, zero, suc, Bool, true, ◌&&◌, List, [], ◌∷◌, slice_index_or}
+use Rattle.std.specs.Prelude.{ℕ, zero, suc, Bool, true, false, ◌&&◌, List, [], ◌∷◌, Some, None, Option, slice_index_or}
 use Rattle.std.specs.Str.{bytes_eq}
 use Rattle.std.specs.Option.{is_none}
 use Rattle.flows.specs.Net.{NetModel}
@@ -31,6 +31,12 @@ keeps_pairs pairs fs = all_below (λ p. all_below (λ q. same_load (pair_at pair
 -- so that a demand is that of the flows
 abbrev pub keeps_demand : Demand → List FlowModel → Bool
 keeps_demand demand fs = keeps_loads (loads_model demand.loads) fs && keeps_pairs (pairs_model demand.pairs) fs
+
+-- and so is one to try flows on; where it isn't there, there are no flows
+abbrev pub tried_keeps : Option Demand → List FlowModel → Bool
+tried_keeps None [] = true
+tried_keeps None (f ∷ fs) = false
+tried_keeps (Some demand) fs = keeps_demand demand fs
 
 -- all flows have roads through the net
 unfoldable pub all_roads : NetModel → List FlowModel → Bool
